@@ -105,7 +105,7 @@ def figures():
     yield TESTING, f"the same over the transfer: {damage['transfer']:,.0f} runs |"
     yield TESTING, f"its report changed too: {damage['audit']:,.0f} runs |"
     yield "docs/EXTENDING.md", f"{minutes('tva_config_entries')} minutes for the whole crate"
-    yield "docs/EXTENDING.md", f"| {minutes('tva_config')} minutes; {minutes('tva_commands')}; {minutes('tva')} |"
+    yield "docs/EXTENDING.md", f"| {minutes('tva_config')} minutes; {minutes('tva')} |"
     yield "results/README.md", f"over {Rows('fuzz.csv', what='run', name='networks').one('count'):,.0f} networks"
     yield "results/README.md", f"when these were {Rows('wrong-programs.csv').most('commands'):.0f} small ones"
     yield "README.md", f"in some {told('minutes until the program is proved and built')} minutes on four processors"

@@ -1,18 +1,7 @@
 -- Each run of a trace that is replayed has what is written.
-use Rattle.std.proofs.Common.{ℕ, List, ◌++◌, None, Ok, ◌≡◌, ◌∙◌, ap, subst, inl, inr, IfSome}
-use Rattle.tva_outside.specs.Held.{HeldByName}
-use Rattle.tva_plan.specs.declared.config.Config.{Config}
-use Rattle.tva_plan.specs.Valid.{IsConfig}
-use Rattle.tva_report.specs.Lines.{first_bad}
-use Rattle.tva_trace.specs.declared.said.SaidRow.{SaidRow}
-use Rattle.tva_trace.specs.Rows.{rows_of}
-use Rattle.tva_commands.specs.Answer.{WroteAll, WrotePart}
+use Rattle.tva.proofs.Common.{ℕ, List, ◌++◌, None, Ok, ◌≡◌, ◌∙◌, ap, subst, inl, inr, IfSome, HeldByName, Config, IsConfig, first_bad, SaidRow, rows_of, WroteAll, WrotePart, Expected, audits, replays, IsCut, wanted, same_report}
 use Rattle.tva.specs.Each.{BeginsEach, WroteEach}
-use Rattle.tva_commands.specs.Expected.{Expected, audits, replays}
-use Rattle.tva_commands.specs.Parts.{IsCut}
-use Rattle.tva.specs.Wanted.{wanted}
-use Rattle.tva_audit.proofs.OneAnswer.{same_report}
-use Rattle.tva_commands.proofs.Replays.{cut_of_nothing, of_rows}
+use Rattle.tva.proofs.Replays.{cut_of_nothing, of_rows}
 use Rattle.tva.proofs.Wants.{HoldsOfEach, of_wanted}
 
 module _ (old new : List ℕ) where

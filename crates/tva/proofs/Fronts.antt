@@ -1,19 +1,9 @@
 -- On every status, what is written is the first bytes of a text that is to be written.
-use Rattle.std.proofs.Common.{◌≡◌, ◌⊎◌, ℕ, List, IfSome, None, Some, ap, inl, inr, refl, subst}
-use Rattle.std.specs.Prelude.{IsSomeAnd}
-use Rattle.tva_outside.specs.Held.{HeldByName}
-use Rattle.std.specs.Option.{option_map}
-use Rattle.std.specs.declared.option.Option.{Option}
-use Rattle.tva_outside.specs.Loads.{Load}
-use Rattle.tva_commands.specs.Command.{Command, command_of}
-use Rattle.tva.specs.Wanted.{OfWanted, wanted}
-use Rattle.tva_commands.specs.Given.{AgreeSince}
-use Rattle.tva_commands.specs.Expected.{Expected, comes_to, refuses}
-use Rattle.tva_commands.specs.Answer.{Answers, OfCommand, WroteAll, WrotePart}
-use Rattle.tva_commands.specs.declared.status.Status as status
-use Rattle.tva_commands.specs.declared.status.Status.TheVariants.{Done, Found as Differs, Usage, ReadFault, WriteFault, TooLarge, BadConfig, BadTrace, EventLimit, OutOfMemory, BadReport}
-use Rattle.tva_commands.proofs.Replays.{cut_of_whole}
-use Rattle.tva_commands.proofs.Texts.{begun_of_text}
+use Rattle.tva.proofs.Common.{◌≡◌, ◌⊎◌, ℕ, List, IfSome, None, Some, ap, inl, inr, refl, subst, IsSomeAnd, HeldByName, option_map, Option, Load, Command, command_of, OfWanted, wanted, AgreeSince, Expected, comes_to, refuses, Answers, OfCommand, WroteAll, WrotePart, Done, Usage, ReadFault, WriteFault, TooLarge, BadConfig, BadTrace, EventLimit, OutOfMemory, BadReport}
+use Rattle.tva.specs.declared.status.Status as status
+use Rattle.tva.specs.declared.status.Status.TheVariants.{Found as Differs}
+use Rattle.tva.proofs.Replays.{cut_of_whole}
+use Rattle.tva.proofs.Texts.{begun_of_text}
 
 part_of_all : (old new : List ℕ) (x : Expected) → WroteAll old new x → WrotePart old new x
 part_of_all old new x (text, is, w) = inr (text, begun_of_text x text is, cut_of_whole old new text w)

@@ -1,19 +1,6 @@
 -- The report of a run as lines: there is one, a line feed ends it, and a report of the same lines is the same.
-use Rattle.std.proofs.Common.{◌≡◌, ℕ, ◌+◌, Bool, true, false, List, [], ◌∷◌, ◌++◌, refl, sym, ap, ◌∙◌, append_assoc, inl, inr, None, Some}
-use Rattle.std.proofs.lemmas.Bool.{cases_Bool}
-use Rattle.std.specs.List.{list_all, list_any}
-use Rattle.tva_plan.specs.declared.config.Config.{Config}
-use Rattle.tva_plan.specs.Valid.{IsConfig}
-use Rattle.tva_report.specs.Lines.{first_bad, is_feed, pieces, report_lines, text_of}
-use Rattle.tva_report.specs.Differences.{first_difference}
-use Rattle.tva_report.proofs.Differing.{same_of_none}
+use Rattle.tva.proofs.Common.{◌≡◌, ℕ, ◌+◌, Bool, true, false, List, [], ◌∷◌, ◌++◌, refl, sym, ap, ◌∙◌, append_assoc, inl, inr, None, Some, cases_Bool, list_all, list_any, Config, IsConfig, first_bad, is_feed, pieces, report_lines, text_of, first_difference, same_of_none, Row, summary_of, text_of_totals, lines_of, report_of, totals_of, HasReport, are_delayed, one_list}
 use Rattle.tva_report.proofs.LinesBack.{good_back, text_back}
-use Rattle.tva_rows.specs.declared.rows.Row.{Row}
-use Rattle.tva_lines.specs.Lines.{summary_of, text_of_totals}
-use Rattle.tva_run.specs.Report.{lines_of, report_of, totals_of}
-use Rattle.tva_run.specs.Shown.{HasReport}
-use Rattle.tva_run.proofs.Runs.{are_delayed}
-use Rattle.tva_run.proofs.Reports.{one_list}
 
 pub some_is_there : {A : Type 0} (x : A) → Some x ≡ None → ⊥
 some_is_there x e = cc

@@ -1,14 +1,7 @@
 -- How a run ends where nothing fails.
-use Rattle.std.proofs.Common.{◌≡◌, inl, inr, ℕ, List, ◌++◌, refl, sym, subst}
-use Rattle.tva_report.specs.declared.differences.Finding.{Finding}
-use Rattle.tva_outside.specs.Loads.{Load}
-use Rattle.tva_commands.specs.Command.{Command}
-use Rattle.tva_commands.specs.Expected.{Expected, comes_to, writes, shows, replays, audits, refuses, Ends, IsText}
-use Rattle.tva_commands.specs.Answer.{Answers, HasFound, IsBegunText, OfCommand, WroteLines}
-use Rattle.tva_run.specs.Shown.{all_of}
-use Rattle.tva.specs.Wanted.{Settles, SettlesRefusal}
-use Rattle.tva_commands.specs.declared.status.Status as status
-use Rattle.tva_commands.specs.declared.status.Status.TheVariants.{Done, Found as Differs, Usage, ReadFault, WriteFault, TooLarge, BadConfig, BadTrace, EventLimit, OutOfMemory, BadReport}
+use Rattle.tva.proofs.Common.{◌≡◌, inl, inr, ℕ, List, ◌++◌, refl, sym, subst, Finding, Load, Command, Expected, comes_to, writes, shows, replays, audits, refuses, Ends, IsText, Answers, HasFound, IsBegunText, OfCommand, WroteLines, all_of, Settles, SettlesRefusal, Done, Usage, ReadFault, WriteFault, TooLarge, BadConfig, BadTrace, EventLimit, OutOfMemory, BadReport}
+use Rattle.tva.specs.declared.status.Status as status
+use Rattle.tva.specs.declared.status.Status.TheVariants.{Found as Differs}
 
 -- what has a text ends with all of it
 ends_with_text : (x : Expected) (text : List ℕ) → IsText x text → Ends Done x

@@ -1,52 +1,23 @@
 -- What holds of all that words can come to: its runs keep their promises, and it is to end in just one way.
-use Rattle.std.proofs.Common.{◌≡◌, ℕ, ◌+◌, All, Bool, true, false, cond, List, length, Result, Ok, Err, Some, None, IfSome, refl, sym, ◌∙◌, ap, subst, inl, inr, arith}
-use Rattle.std.specs.declared.option.Option.{Option}
-use Rattle.std.specs.Prelude.{nat_lt}
-use Rattle.std.specs.Option.{option_map, option_map_or}
+use Rattle.tva.proofs.Common.{◌≡◌, ℕ, ◌+◌, All, Bool, true, false, cond, List, length, Result, Ok, Err, Some, None, IfSome, refl, sym, ◌∙◌, ap, subst, inl, inr, arith, Option, nat_lt, option_map, option_map_or, HeldByName, bytes_at, Config, IsConfig, Row, SaidRow, rows_of, AreRows, rows_are_one, cases_lt, Event, AreEventsTo, report_of, are_delayed, no_more_events, read_events, Finding, first_difference, first_bad, report_lines, none_of_same, RouterSum, IsDifference, generated, check_line, Command, command_of, replay, check, shim, gen, audit, Expected, writes, shows, replays, audits, refuses, Sought, followed, ◌>>=◌, within_limit, plan_at, trace_at, report_at, comes_to, Ends, EndsAudit, EndsReplay, HasReport, IsPastLimit, IsWithinLimit, wanted, HasOneEnd, Done, Usage, ReadFault, WriteFault, TooLarge, BadConfig, BadTrace, EventLimit, OutOfMemory, BadReport}
 use Rattle.std.specs.Result.{result_map_both}
-use Rattle.tva_outside.specs.Held.{HeldByName, bytes_at}
-use Rattle.tva_plan.specs.declared.config.Config.{Config}
 use Rattle.tva_config_entries.specs.declared.faults.ConfigFault.{ConfigFault}
 use Rattle.tva_config.specs.Read.{read_of}
-use Rattle.tva_plan.specs.Valid.{IsConfig}
 use Rattle.tva_config.proofs.ReadValid.{read_valid}
-use Rattle.tva_rows.specs.declared.rows.Row.{Row}
 use Rattle.tva_trace.specs.declared.rows.TraceFault.{TraceFault}
-use Rattle.tva_trace.specs.declared.said.SaidRow.{SaidRow}
-use Rattle.tva_trace.specs.Rows.{rows_of}
-use Rattle.tva_trace.specs.Meaning.{AreRows}
-use Rattle.tva_trace.proofs.OneList.{rows_are_one}
 use Rattle.tva_trace.proofs.RowsThere.{rows_there}
-use Rattle.std.proofs.lemmas.Bool.{cases_lt}
-use Rattle.tva_base.specs.declared.event.Event.{Event}
-use Rattle.tva_run.specs.Report.{AreEventsTo, report_of}
-use Rattle.tva_run.proofs.Runs.{are_delayed}
-use Rattle.tva_run.proofs.Reports.{no_more_events}
-use Rattle.tva_promises.proofs.ReadRows.{rows_are_valid}
-use Rattle.tva_promises.proofs.Runs.{read_run_keeps}
-use Rattle.tva_honest.proofs.Given.{given}
-use Rattle.tva_honest.proofs.Steady.{honest_regular}
-use Rattle.tva_delivery.proofs.Kept.{keeps, rows_have}
+use Rattle.tva_laws.proofs.ReadRows.{rows_are_valid}
+use Rattle.tva_laws.proofs.Runs.{read_run_keeps}
+use Rattle.tva_laws.proofs.Given.{given}
+use Rattle.tva_laws.proofs.Steady.{honest_regular}
+use Rattle.tva_laws.proofs.FilesKept.{keeps, rows_have}
 use Rattle.tva_trace.proofs.FewFiles.{files_few}
-use Rattle.tva_promises.proofs.Whole.{read_events}
-use Rattle.tva_report.specs.declared.differences.Finding.{Finding}
-use Rattle.tva_report.specs.Differences.{first_difference}
-use Rattle.tva_report.specs.Lines.{first_bad, report_lines}
-use Rattle.tva_report.proofs.Differing.{none_of_same}
-use Rattle.tva_audit.specs.declared.routers.RouterSum.{RouterSum}
-use Rattle.tva_audit.specs.Audit.{IsDifference}
 use Rattle.tva_audit.specs.Sums.{IsBelowLimit}
 use Rattle.tva_audit.proofs.Budgets.{sums_below}
-use Rattle.tva_gen.specs.Text.{generated}
-use Rattle.tva_commands.specs.Check.{check_line}
-use Rattle.tva_commands.specs.Command.{Command, command_of, replay, check, shim, gen, audit}
-use Rattle.tva_commands.specs.Expected.{Expected, writes, shows, replays, audits, refuses, Sought, followed, ◌>>=◌, within_limit, plan_at, trace_at, report_at, comes_to, Ends, EndsAudit, EndsReplay}
 use Rattle.tva.specs.Network.{OfRows, EachKeepsPromises, EachTakesHonest, EachKeepsFiles, AreSumsBelow}
-use Rattle.tva_run.specs.Shown.{HasReport, IsPastLimit, IsWithinLimit}
-use Rattle.tva.specs.Wanted.{wanted, HasOneEnd}
 use Rattle.tva.proofs.Reported.{ends_report, one_report, some_is_there, some_same, text_of_same}
-use Rattle.tva_commands.specs.declared.status.Status as status
-use Rattle.tva_commands.specs.declared.status.Status.TheVariants.{Done, Found as Differs, Usage, ReadFault, WriteFault, TooLarge, BadConfig, BadTrace, EventLimit, OutOfMemory, BadReport}
+use Rattle.tva.specs.declared.status.Status as status
+use Rattle.tva.specs.declared.status.Status.TheVariants.{Found as Differs}
 
 -- ## what holds of each
 

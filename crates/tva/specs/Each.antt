@@ -3,8 +3,8 @@ use Rattle.std.specs.Prelude.{◌≡◌, ℕ, List, ◌++◌}
 use Rattle.tva_rows.specs.declared.rows.Row.{Row}
 use Rattle.tva_trace.specs.Meaning.{AreRows}
 use Rattle.tva_run.specs.Report.{IsReport}
-use Rattle.tva_commands.specs.Expected.{Expected, replays, audits}
-use Rattle.tva_commands.specs.Parts.{IsCut}
+use Rattle.tva.specs.Expected.{Expected, replays, audits}
+use Rattle.tva.specs.Parts.{IsCut}
 
 -- whatever run of the trace there is, its report is what is written, or what is audited
 abbrev pub WroteEach : List ℕ → List ℕ → Expected → Type 0

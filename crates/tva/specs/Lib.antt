@@ -1,3 +1,12 @@
 pub mod Each
 pub mod Network
 pub mod Wanted
+pub mod Answer
+pub mod Audit
+pub mod Check
+pub mod Command
+pub mod Expected
+pub mod Given
+pub mod Parts
+pub mod Status
+pub mod Asked

@@ -3,16 +3,16 @@ use Rattle.std.specs.Prelude.{◌≡◌, ℕ, List, All, Some}
 use Rattle.tva_plan.specs.declared.config.Config.{Config}
 use Rattle.tva_rows.specs.declared.rows.Row.{Row}
 use Rattle.tva_trace.specs.Meaning.{AreRows}
-use Rattle.tva_log.specs.Sites.{Site}
+use Rattle.tva_run.specs.Sites.{Site}
 use Rattle.tva_run.specs.Reaching.{Logs, log_at, site_at}
 use Rattle.tva_run.specs.Run.{IsRunTo}
-use Rattle.tva_promises.specs.Promises.{KeepsPromises}
-use Rattle.tva_honest.specs.Paths.{AreHonestRegular}
-use Rattle.tva_delivery.specs.Delivery.{KeepsFiles}
+use Rattle.tva_laws.specs.Promises.{KeepsPromises}
+use Rattle.tva_laws.specs.Paths.{AreHonestRegular}
+use Rattle.tva_laws.specs.Delivery.{KeepsFiles}
 use Rattle.tva_audit.specs.Audit.{HasSums}
 use Rattle.tva_audit.specs.Sums.{IsBelowLimit}
 use Rattle.tva_audit.specs.declared.routers.RouterSum.{RouterSum}
-use Rattle.tva_commands.specs.Expected.{Expected, replays, audits}
+use Rattle.tva.specs.Expected.{Expected, replays, audits}
 
 -- it holds of the rows of a trace that is to be replayed, or whose report is to be audited
 abbrev pub OfRows : (Config → List Row → Type 0) → Expected → Type 0

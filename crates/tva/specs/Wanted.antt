@@ -4,11 +4,11 @@ use Rattle.std.specs.Option.{option_map}
 use Rattle.std.specs.declared.option.Option.{Option}
 use Rattle.tva_outside.specs.Held.{HeldByName}
 use Rattle.tva_outside.specs.Loads.{Load}
-use Rattle.tva_commands.specs.Given.{OfFiles}
-use Rattle.tva_commands.specs.Command.{command_of}
-use Rattle.tva_commands.specs.Expected.{Expected, comes_to, refuses, Ends}
-use Rattle.tva_commands.specs.declared.status.Status as status
-use Rattle.tva_commands.specs.declared.status.Status.TheVariants.{OutOfMemory}
+use Rattle.tva.specs.Given.{OfFiles}
+use Rattle.tva.specs.Command.{command_of}
+use Rattle.tva.specs.Expected.{Expected, comes_to, refuses, Ends}
+use Rattle.tva.specs.declared.status.Status as status
+use Rattle.tva.specs.declared.status.Status.TheVariants.{OutOfMemory}
 
 -- what is to come of the words over files, where they are a command
 abbrev pub wanted : HeldByName → List (List ℕ) → Option Expected

@@ -1,7 +1,7 @@
 // What is written, by every run that there is.
 ghost use Rattle.std.specs.Prelude.{ℕ, IfSome, List};
 ghost use Rattle.tva_outside.specs.Held.{HeldByName};
-ghost use Rattle.tva_commands.specs.Answer.{WroteAll, WrotePart};
+ghost use Rattle.tva.specs.Answer.{WroteAll, WrotePart};
 ghost use Rattle.tva.specs.Each.{BeginsEach, WroteEach};
 ghost use Rattle.tva.specs.Wanted.{wanted};
 

@@ -6,17 +6,26 @@
 //! files keep. It audits reports by the same words.
 #![tactic(auto)]
 
+mod audited;
+mod check;
+mod command;
+mod commands;
 mod laws;
+mod limits;
+mod lines;
+mod parts;
+mod replay;
+mod status;
 #[cfg(test)]
 mod tests;
 mod top;
 
 use arrayvec::ArrayString;
+use status::{Status, status_text};
 use std::io::ErrorKind;
 use std::process::ExitCode;
 use std::{env, io};
 use top::run;
-use tva_commands::{Status, status_text};
 use tva_outside::{FileShelf, OpenGate, StdSink};
 
 // The words after the program's name.

@@ -5,16 +5,18 @@ ghost use Rattle.tva_outside.specs.Faults.{Rose};
 ghost use Rattle.tva_config_entries.specs.declared.faults.ConfigFault.{ConfigFault};
 ghost use Rattle.tva_report.specs.declared.differences.Finding.{Finding};
 ghost use Rattle.tva_trace.specs.declared.rows.TraceFault.{TraceFault};
-ghost use Rattle.tva_commands.specs.Command.{command_of, texts};
-ghost use Rattle.tva_commands.specs.Expected.{refuses};
-ghost use Rattle.tva_commands.specs.Answer.{HasFound, IsRefusal, NeedsNoFile, WroteAll, WroteLines, WrotePart};
-ghost use Rattle.tva_commands.specs.Given.{files_of, IsTold, WasTaken, WereAsked};
+ghost use Rattle.tva.specs.Command.{command_of, texts};
+ghost use Rattle.tva.specs.Expected.{refuses};
+ghost use Rattle.tva.specs.Answer.{HasFound, IsRefusal, NeedsNoFile, WroteAll, WroteLines, WrotePart};
+ghost use Rattle.tva.specs.Given.{files_of, IsTold, WasTaken, WereAsked};
 ghost use Rattle.tva.specs.Network.{AreSumsBelow, EachKeepsFiles, EachKeepsPromises, EachTakesHonest, OfRows};
 ghost use Rattle.tva.specs.Wanted.{wanted, OfWanted, HasOneEnd, Settles, SettlesRefusal};
 
+use crate::command::parse;
+use crate::commands::run_command;
+use crate::status::Status;
 use std::alloc::Global;
 use std::thread::Threads;
-use tva_commands::{Status, parse, run_command};
 use tva_outside::{Gate, Shelf, Sink};
 
 /// Does what the words ask for, over the files of the shelf, and writes to the sink. Refusals come
@@ -22,7 +24,7 @@ use tva_outside::{Gate, Shelf, Sink};
 /// too large, and a fault of the configuration or of the trace, or a bad line of the report; then, window
 /// by window, more events than the configuration allows, and failing writes. A line of an audited report
 /// that differs is told where the run ends.
-#[tactic(auto, using(tva_commands::proofs::Given::taken_none, tva_commands::proofs::Given::asked_none, tva_commands::proofs::Given::told_none))]
+#[tactic(auto, using(crate::proofs::Given::taken_none, crate::proofs::Given::asked_none, crate::proofs::Given::told_none))]
 pub fn run<R: Threads + Sync, S: Shelf, W: Sink, G: Gate>(
     rt: &R,
     alloc: Global,

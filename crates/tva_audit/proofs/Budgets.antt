@@ -1,37 +1,14 @@
 -- In every run the worst grant of a router is below its limit.
-use Rattle.std.proofs.Common.{◌≡◌, ℕ, suc, ◌+◌, ◌*◌, ◌<◌, List, [], ◌∷◌, length, get_or, map, filter, All, Bool, true, false, cond, Some, refl, sym, ◌∙◌, ap, subst, arith, inl, inr, append-nil}
-use Rattle.std.specs.Prelude.{◌==◌, IfSome, not, slice_get, sum_by}
-use Rattle.std.specs.Option.{option_map}
-use Rattle.std.specs.List.{AllByRecursion, cons_option}
-use Rattle.std.proofs.lemmas.Bool.{cases_Bool, eq-eqb}
-use Rattle.std.proofs.lemmas.List.Elements.{All-from_recursion, recursion_from_All}
-use Rattle.std.proofs.lemmas.List.Sums.{sum_by-cons}
-use Rattle.std.proofs.lemmas.Option.{slice_get-get_or}
-use Rattle.tva_base.specs.declared.packet.Grant.{Grant}
-use Rattle.tva_base.specs.declared.packet.Time.{Time}
+use Rattle.tva_audit.proofs.Common.{◌≡◌, ℕ, suc, ◌+◌, ◌*◌, ◌<◌, List, [], ◌∷◌, length, get_or, map, filter, All, Bool, true, false, cond, Some, refl, sym, ◌∙◌, ap, subst, arith, inl, inr, append-nil, ◌==◌, IfSome, not, slice_get, sum_by, option_map, AllByRecursion, cons_option, cases_Bool, eq-eqb, All-from_recursion, recursion_from_All, sum_by-cons, slice_get-get_or, Grant, Time, filter-true, filter-false, Config, NodePlan, Router, Host, picked, Site, site_of, Entry, charges, Logs, links_out, log_at, site_at, Charged, boot_among, of_boot, bytes_of_pair, charged_bytes, grant_and_sum, is_worse, limit_of, pair_of, pair_sums, pairs_in, same_pair, sums_of, worst_from, worst_of, RouterSum, IsBelowLimit, run_sums, sum_of_log, without_nonce}
 use Rattle.tva_base.specs.declared.plan.LinkPlan.{LinkPlan}
 use Rattle.tva_base.specs.declared.plan.RouterPlan.{RouterPlan}
 use Rattle.tva_base.specs.Changes.{boot_at}
 use Rattle.tva_flow.specs.Charges.{Charge, bytes_of}
 use Rattle.tva_flow.specs.Charges as flow
-use Rattle.tva_log.proofs.Joins.{filter-true, filter-false}
 use Rattle.tva_router.specs.Boots.{charges_of_boot}
-use Rattle.tva_plan.specs.declared.config.Config.{Config}
-use Rattle.tva_plan.specs.declared.config.NodePlan.{NodePlan}
-use Rattle.tva_plan.specs.declared.config.NodePlan.TheVariants.{Router, Host}
-use Rattle.tva_plan.specs.Wiring.{picked}
-use Rattle.tva_log.specs.Sites.{Site, site_of}
-use Rattle.tva_log.specs.Entries.{Entry}
-use Rattle.tva_log.specs.Parts.{charges}
-use Rattle.tva_run.specs.Reaching.{Logs, links_out, log_at, site_at}
-use Rattle.tva_promises.specs.Promises.{KeepsPromises}
-use Rattle.tva_sums.specs.declared.charged.Charged.{Charged}
-use Rattle.tva_sums.specs.declared.pairs.Pair.{Pair}
-use Rattle.tva_sums.specs.Charged.{boot_among, of_boot}
-use Rattle.tva_sums.specs.Pairs.{firsts}
-use Rattle.tva_sums.specs.Sums.{bytes_of_pair, charged_bytes, grant_and_sum, is_worse, limit_of, pair_of, pair_sums, pairs_in, same_pair, sums_of, worst_from, worst_of}
-use Rattle.tva_audit.specs.declared.routers.RouterSum.{RouterSum}
-use Rattle.tva_audit.specs.Sums.{IsBelowLimit, run_sums, sum_of_log, without_nonce}
+use Rattle.tva_laws.specs.Promises.{KeepsPromises}
+use Rattle.tva_report.specs.declared.pairs.Pair.{Pair}
+use Rattle.tva_report.specs.Pairs.{firsts}
 
 each_filter : {X : Type 0} (P : X → Type 0) (p : X → Bool) (xs : List X) → AllByRecursion P xs → AllByRecursion P (filter p xs)
 each_filter P p [] h = tt

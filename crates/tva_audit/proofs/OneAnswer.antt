@@ -1,22 +1,8 @@
 -- An audit has one answer.
-use Rattle.std.proofs.Common.{◌≡◌, ◌⊎◌, inl, inr, ℕ, ◌+◌, List, Some, None, Result, Ok, Err, refl, sym, ◌∙◌, ap, subst, arith}
-use Rattle.tva_plan.specs.declared.config.Config.{Config}
-use Rattle.tva_plan.specs.Valid.{IsConfig}
-use Rattle.tva_rows.specs.declared.rows.Row.{Row}
-use Rattle.tva_run.specs.Report.{IsReport, report_of}
-use Rattle.tva_run.specs.Shown.{HasReport, IsPastLimit}
+use Rattle.tva_audit.proofs.Common.{◌≡◌, ◌⊎◌, inl, inr, ℕ, ◌+◌, List, Some, None, Result, Ok, Err, refl, sym, ◌∙◌, ap, subst, arith, Config, IsConfig, Row, IsReport, report_of, HasReport, IsPastLimit, Finding, first_difference, report_lines, none_of_same, Audited, Same, Differs, AuditError, BadReport, EventLimit, OutOfMemory, IsAudit, IsDifference}
 use Rattle.tva_run.proofs.Reports.{no_more_events, one_list}
 use Rattle.tva_run.proofs.Runs.{are_delayed}
-use Rattle.tva_report.specs.declared.differences.Finding.{Finding}
-use Rattle.tva_report.specs.Differences.{first_difference}
-use Rattle.tva_report.specs.Lines.{report_lines}
-use Rattle.tva_report.proofs.Differing.{none_of_same}
-use Rattle.tva_audit.specs.declared.audits.Audited.{Audited}
-use Rattle.tva_audit.specs.declared.audits.Audited.TheVariants.{Same, Differs}
-use Rattle.tva_audit.specs.declared.audits.AuditError.{AuditError}
-use Rattle.tva_audit.specs.declared.audits.AuditError.TheVariants.{BadReport, EventLimit, OutOfMemory}
 use Rattle.tva_audit.specs.Answers.{IsTheAnswer}
-use Rattle.tva_audit.specs.Audit.{IsAudit, IsDifference}
 
 module _ (config : Config) (rows : List Row) (valid : IsConfig config) where
   -- there is one report

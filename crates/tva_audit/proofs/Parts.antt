@@ -1,26 +1,7 @@
 -- The sums of chunks, one after another, are those of all.
-use Rattle.std.proofs.Common.{◌≡◌, ℕ, ◌+◌, ◌*◌, ◌/◌, ◌%◌, ◌<◌, ◌≤◌, List, [], ◌∷◌, ◌++◌, length, get_or, take, All, Option, Some, None, Result, Ok, Err, append-nil, refl, sym, ◌∙◌, ap, ap₂, subst, arith}
-use Rattle.std.specs.Prelude.{min, sum_by, IfOk}
-use Rattle.std.specs.declared.alloc.AllocError.{AllocError}
-use Rattle.std.specs.declared.alloc.Global.{Global}
-use Rattle.std.specs.declared.vec.Vec.{Vec}
-use Rattle.std.specs.Fork.{slice_chunk}
-use Rattle.std.specs.List.{AllByRecursion, cons_option}
+use Rattle.tva_audit.proofs.Common.{◌≡◌, ℕ, ◌+◌, ◌*◌, ◌/◌, ◌%◌, ◌<◌, ◌≤◌, List, [], ◌∷◌, ◌++◌, length, get_or, take, All, Option, Some, None, Result, Ok, Err, append-nil, refl, sym, ◌∙◌, ap, ap₂, subst, arith, min, sum_by, IfOk, AllocError, Global, Vec, slice_chunk, AllByRecursion, cons_option, take_all, take_more, All-from_recursion, filter_map-append, div_ceil_times, sum_by-cons, Event, NodePlan, Router, Host, charges_in, sums_of, KeepsAll, NodeState, restarts_in, router_number, RouterSum, AreParts, IsSummable, numbered, sum_told, sums_told}
 use Rattle.std.proofs.Math.Seq.{take-add}
-use Rattle.std.proofs.lemmas.List.{take_all, take_more}
-use Rattle.std.proofs.lemmas.List.Elements.{All-from_recursion, filter_map-append}
-use Rattle.std.proofs.lemmas.Grind.{div_ceil_times}
-use Rattle.std.proofs.lemmas.List.Sums.{sum_by-cons}
-use Rattle.tva_base.specs.declared.event.Event.{Event}
-use Rattle.tva_plan.specs.declared.config.NodePlan.{NodePlan}
-use Rattle.tva_plan.specs.declared.config.NodePlan.TheVariants.{Router, Host}
-use Rattle.tva_sums.specs.declared.sums.Sums.{Sums}
-use Rattle.tva_sums.specs.Charged.{charges_in}
-use Rattle.tva_sums.specs.Sums.{sums_of}
-use Rattle.tva_node.specs.States.{KeepsAll, NodeState, restarts_in, router_number}
-use Rattle.tva_audit.specs.declared.routers.RouterSum.{RouterSum}
-use Rattle.tva_audit.specs.Chunks.{AreParts, IsSummable}
-use Rattle.tva_audit.specs.Sums.{numbered, sum_told, sums_told}
+use Rattle.tva_report.specs.declared.sums.Sums.{Sums}
 
 -- each of the nodes tells few events, where all together do
 few_each : (most : ℕ) (nodes : List NodeState) → sum_by (λ v. length v.events) nodes ≤ most → AllByRecursion (λ v. length v.events ≤ most) nodes

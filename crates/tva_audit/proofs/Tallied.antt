@@ -1,25 +1,6 @@
 -- Tallies, and the events that were told to them.
-use Rattle.std.proofs.Common.{◌≡◌, ◌≢◌, ℕ, ◌+◌, ◌<◌, ◌≤◌, List, [], ◌∷◌, ◌++◌, length, get_or, set, drop, All, Bool, Option, Some, None, refl, sym, ◌∙◌, ap, subst, arith, inl, inr, append_assoc, append-nil, length-set}
-use Rattle.std.specs.Prelude.{◌==◌}
-use Rattle.std.specs.Option.{option_map_or}
-use Rattle.std.specs.List.{cons_option, filter}
-use Rattle.std.proofs.lemmas.Bool.{cases_Bool, eq-eqb, eqb-true, ne_eqb}
-use Rattle.std.proofs.lemmas.List.{drop_more, get_or-set_other, get_or-set_same, length_push}
-use Rattle.std.proofs.lemmas.List.Elements.{All-append, All-from_recursion, filter-append}
-use Rattle.std.proofs.lemmas.Option.{slice_get-get_or}
-use Rattle.tva_base.specs.declared.event.Event.{Event}
-use Rattle.tva_base.specs.declared.packet.Time.{Time}
-use Rattle.tva_log.specs.Joins.{from_source}
-use Rattle.tva_log.proofs.Joins.{filter-true, filter-false}
-use Rattle.tva_plan.specs.declared.config.Config.{Config}
-use Rattle.tva_plan.specs.declared.config.NodePlan.{NodePlan}
-use Rattle.tva_plan.specs.Wiring.{picked}
-use Rattle.tva_run.specs.Report.{event_node}
-use Rattle.tva_node.specs.States.{restarts_in}
-use Rattle.tva_sums.specs.declared.sums.Tally.{Tally}
-use Rattle.tva_sums.specs.Charged.{charged_in, charges_in}
-use Rattle.tva_sums.specs.Table.{HasRoom, IsSound, StandsFor}
-use Rattle.tva_audit.specs.Tallies.{AreReady, AreTallied, IsTallied, restarts_at}
+use Rattle.tva_audit.proofs.Common.{◌≡◌, ◌≢◌, ℕ, ◌+◌, ◌<◌, ◌≤◌, List, [], ◌∷◌, ◌++◌, length, get_or, set, drop, All, Bool, Option, Some, None, refl, sym, ◌∙◌, ap, subst, arith, inl, inr, append_assoc, append-nil, length-set, ◌==◌, option_map_or, cons_option, cases_Bool, eq-eqb, eqb-true, ne_eqb, drop_more, get_or-set_other, get_or-set_same, length_push, All-append, All-from_recursion, filter-append, slice_get-get_or, Event, Time, from_source, filter-true, filter-false, Config, NodePlan, picked, event_node, restarts_in, Tally, charged_in, charges_in, HasRoom, IsSound, StandsFor, AreReady, AreTallied, IsTallied, restarts_at}
+use Rattle.std.specs.List.{filter}
 
 -- ## lists
 

@@ -1,22 +1,9 @@
 -- The lines of events are lines of a report.
-use Rattle.std.proofs.Common.{◌≡◌, ◌<◌, ℕ, ◌+◌, Bool, true, false, cond, List, [], ◌∷◌, ◌++◌, length, map, take, get_or, All, Option, None, is_some, Result, Ok, Err, sym, ap, ap₂, ◌∙◌, subst, append_assoc, append-nil}
-use Rattle.std.specs.Prelude.{codes, OnOk}
-use Rattle.std.proofs.lemmas.Grind.{flat_map-append}
-use Rattle.std.proofs.lemmas.List.{map-append, take_more}
+use Rattle.tva_audit.proofs.Common.{◌≡◌, ◌<◌, ℕ, ◌+◌, Bool, true, false, cond, List, [], ◌∷◌, ◌++◌, length, map, take, get_or, All, Option, None, is_some, Result, Ok, Err, sym, ap, ap₂, ◌∙◌, subst, append_assoc, append-nil, codes, OnOk, flat_map-append, map-append, take_more, All-append, All-from_recursion, All-map, IsLine, Event, Config, line_of, text_of_event, ended, first_bad, report_lines, text_of, Finding, first_difference, good_made, lines_made, lines_of}
 use Rattle.std.proofs.lemmas.List.Folds.{flat_map-map}
-use Rattle.std.proofs.lemmas.List.Elements.{All-append, All-from_recursion, All-map}
-use Rattle.tva_base.specs.Printable.{IsLine}
-use Rattle.tva_base.specs.declared.event.Event.{Event}
-use Rattle.tva_plan.specs.declared.config.Config.{Config}
-use Rattle.tva_lines.specs.Lines.{line_of, text_of_event}
-use Rattle.tva_report.specs.Lines.{ended, first_bad, report_lines, text_of}
 use Rattle.tva_report.specs.Compared.{Compared, outcome}
 use Rattle.tva_report.specs.Compared as compared
-use Rattle.tva_report.specs.declared.differences.Finding.{Finding}
-use Rattle.tva_report.specs.Differences.{first_difference}
 use Rattle.tva_report.proofs.Comparing.{outcome_kept}
-use Rattle.tva_report.proofs.LinesBack.{good_made, lines_made}
-use Rattle.tva_run.specs.Report.{lines_of}
 
 pub ok_more : {E : Type 0} {P Q : Type 0} (r : Result Unit E) → (P → Q) → OnOk r P → OnOk r Q
 ok_more (Ok x) f h = f h

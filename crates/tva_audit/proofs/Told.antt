@@ -1,30 +1,9 @@
 -- What the events of a run say was charged.
-use Rattle.std.proofs.Common.{◌≡◌, ℕ, suc, ◌+◌, ◌<◌, List, [], ◌∷◌, length, get_or, map, Option, Some, None, refl, ◌∙◌, ap, ap₂, subst, arith}
-use Rattle.std.specs.Prelude.{slice_get}
-use Rattle.std.specs.Option.{option_map, option_map_or}
-use Rattle.std.specs.List.{cons_option}
-use Rattle.std.proofs.lemmas.Option.{slice_get-get_or}
-use Rattle.tva_base.specs.declared.event.Event.{Event}
-use Rattle.tva_base.specs.declared.packet.Grant.{Grant}
+use Rattle.tva_audit.proofs.Common.{◌≡◌, ℕ, suc, ◌+◌, ◌<◌, List, [], ◌∷◌, length, get_or, map, Option, Some, None, refl, ◌∙◌, ap, ap₂, subst, arith, slice_get, option_map, option_map_or, cons_option, slice_get-get_or, Event, Grant, from_source, Config, NodePlan, Router, Host, picked, Site, site_of, Entry, Took, Started, input_time, charge_of, charges, Logs, links_out, log_at, site_at, AreEvents, event_node, Charged, charged_at, charged_in, charges_in, sums_of, numbered, run_sums, sum_of_log, sum_told, without_nonce, sums_among}
 use Rattle.tva_shim.specs.Packets.{PacketData, packet_length}
-use Rattle.tva_log.specs.Joins.{from_source}
-use Rattle.tva_plan.specs.declared.config.Config.{Config}
-use Rattle.tva_plan.specs.declared.config.NodePlan.{NodePlan}
-use Rattle.tva_plan.specs.declared.config.NodePlan.TheVariants.{Router, Host}
-use Rattle.tva_plan.specs.Wiring.{picked}
-use Rattle.tva_log.specs.Sites.{Site, site_of}
-use Rattle.tva_log.specs.Entries as entry
-use Rattle.tva_log.specs.Entries.{Entry, Took, Started, input_time}
-use Rattle.tva_log.specs.Parts.{charge_of, charges}
-use Rattle.tva_log.specs.Parts as parts
-use Rattle.tva_log.specs.Told.{event_of, events, at_time}
-use Rattle.tva_run.specs.Reaching.{Logs, links_out, log_at, site_at}
-use Rattle.tva_run.specs.Report.{AreEvents, event_node}
-use Rattle.tva_sums.specs.declared.charged.Charged.{Charged}
-use Rattle.tva_sums.specs.Charged.{charged_at, charged_in, charges_in}
-use Rattle.tva_sums.specs.Sums.{sums_of}
-use Rattle.tva_audit.specs.Sums.{numbered, run_sums, sum_of_log, sum_told, without_nonce}
-use Rattle.tva_audit.specs.Tallies.{sums_among}
+use Rattle.tva_run.specs.Entries as entry
+use Rattle.tva_run.specs.Parts as parts
+use Rattle.tva_run.specs.Told.{event_of, events, at_time}
 
 -- ## charges
 

@@ -1,42 +1,11 @@
 -- An audit, window by window.
-use Rattle.std.proofs.Common.{◌≡◌, ◌≤◌, ℕ, ◌+◌, false, List, [], ◌∷◌, ◌++◌, length, get_or, All, Option, None, Some, Result, Ok, Err, sym, ap, ◌∙◌, subst, arith, length-append}
-use Rattle.std.specs.Prelude.{is_err, OnOk}
-use Rattle.std.specs.declared.alloc.AllocError.{AllocError}
-use Rattle.std.specs.declared.alloc.Global.{Global}
-use Rattle.std.specs.declared.vec.Vec.{Vec}
-use Rattle.std.proofs.lemmas.List.{length-map, length_push}
-use Rattle.std.proofs.lemmas.List.Elements.{All-append, All-from_recursion, All-map}
-use Rattle.tva_base.specs.Printable.{IsLine, IsPrintable}
-use Rattle.tva_base.specs.declared.event.Event.{Event}
-use Rattle.tva_base.specs.declared.event.Totals.{Totals}
-use Rattle.tva_plan.specs.declared.config.Config.{Config}
-use Rattle.tva_plan.specs.Valid.{IsConfig}
-use Rattle.tva_rows.specs.declared.rows.Row.{Row}
-use Rattle.tva_lines.specs.Lines.{summary_of, text_of_event, text_of_totals}
+use Rattle.tva_audit.proofs.Common.{◌≡◌, ◌≤◌, ℕ, ◌+◌, false, List, [], ◌∷◌, ◌++◌, length, get_or, All, Option, None, Some, Result, Ok, Err, sym, ap, ◌∙◌, subst, arith, length-append, is_err, OnOk, AllocError, Global, Vec, length-map, length_push, All-append, All-from_recursion, All-map, IsLine, IsPrintable, Event, Totals, Config, IsConfig, Row, summary_of, text_of_event, text_of_totals, first_bad, report_lines, text_of, bad_ahead, first_difference, same_of_none, good_back, printable_made, lines_of, report_of, totals_of, HasReport, all_of, NetState, NetError, RouterSum, Audited, Same, Differs, AuditError, BadReport, EventLimit, OutOfMemory, HasSums, IsAudit, Follows, HasFollowed, Comes, HasHappened, AreReady, sums_among}
 use Rattle.tva_lines.proofs.Printables.{event_printable}
-use Rattle.tva_report.specs.Lines.{first_bad, report_lines, text_of}
-use Rattle.tva_report.specs.Ahead.{bad_ahead}
-use Rattle.tva_report.specs.Differences.{first_difference}
-use Rattle.tva_report.proofs.Differing.{same_of_none}
-use Rattle.tva_report.proofs.LinesBack.{good_back, printable_made}
-use Rattle.tva_run.specs.Report.{lines_of, report_of, totals_of}
-use Rattle.tva_run.specs.Shown.{HasReport, all_of}
-use Rattle.tva_net.specs.Nets.{NetState}
-use Rattle.tva_net.specs.declared.kinds.NetError.{NetError}
 use Rattle.tva_net.specs.declared.kinds.NetError.TheVariants as error
 use Rattle.tva_net.specs.declared.kinds.Window.{Window}
 use Rattle.tva_net.specs.declared.kinds.Window.TheVariants.{Ended}
 use Rattle.tva_audit.specs.declared.followed.Followed.{Followed}
-use Rattle.tva_audit.specs.declared.routers.RouterSum.{RouterSum}
-use Rattle.tva_audit.specs.declared.audits.Audited.{Audited}
-use Rattle.tva_audit.specs.declared.audits.Audited.TheVariants.{Same, Differs}
-use Rattle.tva_audit.specs.declared.audits.AuditError.{AuditError}
-use Rattle.tva_audit.specs.declared.audits.AuditError.TheVariants.{BadReport, EventLimit, OutOfMemory}
-use Rattle.tva_audit.specs.Audit.{HasSums, IsAudit}
 use Rattle.tva_audit.specs.Deciding.{IsDecided, refusal, told_by}
-use Rattle.tva_audit.specs.Followed.{Follows, HasFollowed}
-use Rattle.tva_audit.specs.Worked.{Comes, HasHappened}
-use Rattle.tva_audit.specs.Tallies.{AreReady, sums_among}
 use Rattle.tva_audit.proofs.Tallied.{ready_by}
 use Rattle.tva_audit.proofs.Texts.{lines_same, text_of_more, texts_of}
 use Rattle.tva_audit.proofs.Told.{sums_same}

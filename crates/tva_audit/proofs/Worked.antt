@@ -1,26 +1,11 @@
 -- A run that is worked window by window.
-use Rattle.std.proofs.Common.{◌≡◌, ◌≤◌, ◌<◌, ◌-◌, Bool, true, false, cond, List, [], ◌∷◌, ◌++◌, length, All, Result, Ok, Err, refl, sym, ap, ◌∙◌, subst, arith, length-append}
-use Rattle.std.specs.Prelude.{IfErr, IfOk}
-use Rattle.std.specs.List.{AllByRecursion}
-use Rattle.std.specs.declared.alloc.Global.{Global}
-use Rattle.std.specs.declared.vec.Vec.{Vec}
-use Rattle.std.proofs.lemmas.List.Elements.{All-from_recursion, recursion_from_All}
-use Rattle.tva_base.specs.declared.event.Event.{Event}
-use Rattle.tva_base.specs.declared.event.Totals.{Totals}
-use Rattle.tva_plan.specs.declared.config.Config.{Config}
-use Rattle.tva_rows.specs.declared.rows.Row.{Row}
-use Rattle.tva_lines.specs.Lines.{HasEvent}
-use Rattle.tva_run.specs.Report.{AreEventsTo, lines_of, totals_of}
-use Rattle.tva_run.specs.Shown.{AreLines, IsCutShort, all_of}
+use Rattle.tva_audit.proofs.Common.{◌≡◌, ◌≤◌, ◌<◌, ◌-◌, Bool, true, false, cond, List, [], ◌∷◌, ◌++◌, length, All, Result, Ok, Err, refl, sym, ap, ◌∙◌, subst, arith, length-append, IfErr, IfOk, AllByRecursion, Global, Vec, All-from_recursion, recursion_from_All, Event, Totals, Config, Row, HasEvent, AreEventsTo, lines_of, totals_of, AreLines, IsCutShort, all_of, NetState, NetError, Comes, IsBehind}
 use Rattle.tva_run.specs.Windows.{Window, given}
 use Rattle.tva_run.proofs.Names.{events_named}
-use Rattle.tva_net.specs.Nets.{NetState}
-use Rattle.tva_net.specs.declared.kinds.NetError.{NetError}
 use Rattle.tva_net.specs.declared.kinds.NetError.TheVariants as error
 use Rattle.tva_net.specs.declared.kinds.Window as answers
 use Rattle.tva_net.specs.declared.kinds.Window.TheVariants as answer
 use Rattle.tva_net.specs.Steps.{GoesOn, Gives, PassesLimit, Refuses, StandsFor}
-use Rattle.tva_audit.specs.Worked.{Comes, IsBehind}
 
 each-right : {X : Type 0} (P : X → Type 0) (xs ys : List X) → AllByRecursion P (xs ++ ys) → AllByRecursion P ys
 each-right P [] ys h = h

@@ -7,15 +7,15 @@ use Rattle.tva_plan.specs.declared.config.Config.{Config}
 use Rattle.tva_plan.specs.declared.config.NodePlan.{NodePlan}
 use Rattle.tva_plan.specs.declared.config.NodePlan.TheVariants.{Router, Host}
 use Rattle.tva_plan.specs.Wiring.{picked}
-use Rattle.tva_log.specs.Entries.{Entry}
-use Rattle.tva_log.specs.Parts.{charges}
-use Rattle.tva_log.specs.Told.{at_time}
+use Rattle.tva_run.specs.Entries.{Entry}
+use Rattle.tva_run.specs.Parts.{charges}
+use Rattle.tva_run.specs.Told.{at_time}
 use Rattle.tva_run.specs.Reaching.{Logs, log_at}
 use Rattle.tva_node.specs.States.{NodeState}
-use Rattle.tva_sums.specs.declared.charged.Charged.{Charged}
-use Rattle.tva_sums.specs.declared.sums.Sums.{Sums}
-use Rattle.tva_sums.specs.Charged.{charged_at, charges_in}
-use Rattle.tva_sums.specs.Sums.{limit_of, sums_of}
+use Rattle.tva_report.specs.declared.charged.Charged.{Charged}
+use Rattle.tva_report.specs.declared.sums.Sums.{Sums}
+use Rattle.tva_report.specs.Charged.{charged_at, charges_in}
+use Rattle.tva_report.specs.Sums.{limit_of, sums_of}
 use Rattle.tva_audit.specs.declared.routers.RouterSum.{RouterSum}
 
 abbrev pub numbered : ℕ → Sums → RouterSum

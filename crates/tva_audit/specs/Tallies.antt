@@ -5,12 +5,12 @@ use Rattle.tva_base.specs.declared.event.Event.{Event}
 use Rattle.tva_base.specs.declared.packet.Time.{Time}
 use Rattle.tva_plan.specs.declared.config.Config.{Config}
 use Rattle.tva_plan.specs.Wiring.{picked}
-use Rattle.tva_log.specs.Joins.{from_source}
+use Rattle.tva_run.specs.Joins.{from_source}
 use Rattle.tva_run.specs.Report.{event_node}
 use Rattle.tva_node.specs.States.{restarts_in}
-use Rattle.tva_sums.specs.declared.sums.Tally.{Tally}
-use Rattle.tva_sums.specs.Charged.{charges_in}
-use Rattle.tva_sums.specs.Table.{HasRoom, IsSound, StandsFor}
+use Rattle.tva_report.specs.declared.sums.Tally.{Tally}
+use Rattle.tva_report.specs.Charged.{charges_in}
+use Rattle.tva_report.specs.Table.{HasRoom, IsSound, StandsFor}
 use Rattle.tva_audit.specs.declared.routers.RouterSum.{RouterSum}
 use Rattle.tva_audit.specs.Sums.{sum_told}
 

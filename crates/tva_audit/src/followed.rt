@@ -19,8 +19,7 @@ use std::alloc::{AllocError, Global};
 use tva_base::{Event, Totals};
 use tva_lines::summary_text;
 use tva_plan::Config;
-use tva_report::Comparison;
-use tva_sums::Tally;
+use tva_report::{Comparison, Tally};
 
 /// A report that is compared with the lines of a run as they come, and what each router let through so
 /// far in that run.

@@ -8,7 +8,7 @@ use std::alloc::{AllocError, Global};
 use std::thread::{Threads, map_chunks};
 use tva_base::Grant;
 use tva_node::Node;
-use tva_sums::{Sums, router_sums};
+use tva_report::{Sums, router_sums};
 
 /// What a router let through, by the number of its node: how many pairs of a boot and a grant were
 /// charged, how many charges there were, the sum of their lengths in bytes, and the grant that came

@@ -5,8 +5,8 @@ ghost use Rattle.tva_base.specs.declared.event.Event.{Event};
 ghost use Rattle.tva_plan.specs.Valid.{IsConfig};
 ghost use Rattle.tva_lines.specs.Lines.{HasEvent, HasNode};
 ghost use Rattle.tva_node.specs.States.{restarts_in};
-ghost use Rattle.tva_sums.specs.Charged.{charges_in};
-ghost use Rattle.tva_sums.specs.Table.{StandsFor};
+ghost use Rattle.tva_report.specs.Charged.{charges_in};
+ghost use Rattle.tva_report.specs.Table.{StandsFor};
 ghost use Rattle.tva_audit.specs.Sums.{sum_told};
 ghost use Rattle.tva_audit.specs.Tallies.{AreReady, AreTallied, restarts_at, sums_among};
 
@@ -14,7 +14,7 @@ use crate::routers::{RouterSum, numbered};
 use std::alloc::{AllocError, Global};
 use tva_base::{Event, Time};
 use tva_plan::{Config, NodePlan};
-use tva_sums::Tally;
+use tva_report::Tally;
 
 /// A tally for each node of a configuration, to which nothing was told yet.
 pub fn first_tallies(alloc: Global, config: &Config) -> Result<Vec<Tally>, AllocError>

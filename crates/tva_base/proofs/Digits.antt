@@ -1,13 +1,6 @@
 -- The number that digits write, digit by digit.
-use Rattle.std.proofs.Common.{refl, ◌≡◌, ℕ, ◌+◌, ◌-◌, ◌*◌, ◌^◌, ◌<◌, ◌≤◌, Bool, true, false, List, [], ◌∷◌, ◌++◌, length, take, drop, get_or, add-one, arith, length-append}
-use Rattle.std.proofs.lemmas.Bool.Decides.{nat_tests}
-use Rattle.std.proofs.lemmas.List.{take_more, take-append-drop, length-take-le}
+use Rattle.tva_base.proofs.Common.{refl, ◌≡◌, ℕ, ◌+◌, ◌-◌, ◌*◌, ◌^◌, ◌<◌, ◌≤◌, Bool, true, false, List, [], ◌∷◌, ◌++◌, length, take, drop, get_or, add-one, arith, length-append, nat_tests, take_more, take-append-drop, length-take-le, pow-suc, pow-le-pow_right, ◌&&◌, list_all, is_ascii_digit, number_in}
 use Rattle.std.proofs.lemmas.List.Folds.{list_all-append}
-use Rattle.std.proofs.Math.Nat.{pow-suc, pow-le-pow_right}
-use Rattle.std.specs.Prelude.{◌&&◌}
-use Rattle.std.specs.List.{list_all}
-use Rattle.std.specs.Char.{is_ascii_digit}
-use Rattle.tva_base.specs.Decimal.{number_in}
 
 push_step : (x p n e : ℕ) → x * (p * 10) + (n * 10 + e) ≡ (x * p + n) * 10 + e
 push_step x p n e = omega arith

@@ -1,21 +1,16 @@
 -- The texts of addresses are those of four numbers joined by dots.
-use Rattle.std.proofs.Common.{refl, sym, ap, ◌∙◌, ◌≡◌, ℕ, zero, suc, ◌+◌, ◌^◌, ◌<◌, ◌≤◌, Bool, true, false, cond, List, [], ◌∷◌, ◌++◌, length, get_or, Option, Some, None, arith, length-append}
-use Rattle.std.proofs.lemmas.Bool.Decides.{nat_tests}
+use Rattle.tva_base.proofs.Common.{refl, sym, ap, ◌∙◌, ◌≡◌, ℕ, zero, suc, ◌+◌, ◌^◌, ◌<◌, ◌≤◌, Bool, true, false, cond, List, [], ◌∷◌, ◌++◌, length, get_or, Option, Some, None, arith, length-append, nat_tests, take-append-drop, ◌&&◌, ◌==◌, not, nat_le, nat_lt, position, list_all, position_or_len, is_ascii_digit, number_in, is_decimal, decimal_of, has_leading_zero, plain_decimal_of}
 use Rattle.std.proofs.Math.Seq.{take-append_seam, drop-append-add, drop-cons}
-use Rattle.std.proofs.lemmas.List.{take-append-drop}
 use Rattle.std.proofs.lemmas.List.Quantifiers.{position-Some}
 use Rattle.std.proofs.lemmas.Option.{same_Some}
 use Rattle.std.proofs.lemmas.Fmt.{first_decimal, decimal_digit, decimal_nonempty, length-decimal-le, digits_decimal, digits_value-decimal, decimal-digits_value}
 use Rattle.std.proofs.lemmas.Str.Parse.{IsDigitsTest, IsNumeralModel, numerals_by_weight}
-use Rattle.std.specs.Prelude.{◌&&◌, ◌==◌, not, nat_le, nat_lt, take, drop, position}
+use Rattle.std.specs.Prelude.{take, drop}
 use Rattle.std.specs.Int.{IsInRange}
-use Rattle.std.specs.List.{list_all, position_or_len}
-use Rattle.std.specs.Char.{is_ascii_digit}
 use Rattle.std.specs.Fmt.{decimal}
 use Rattle.std.specs.Option.{option_map}
 use Rattle.tva_base.specs.declared.addresses.Address.{Address}
 use Rattle.tva_base.proofs.Digits.{both}
-use Rattle.tva_base.specs.Decimal.{number_in, is_decimal, decimal_of, has_leading_zero, plain_decimal_of}
 use Rattle.tva_base.specs.Options.{◌>>=◌}
 use Rattle.tva_base.specs.Addresses.{parted, octet_of, address_of, joined, Writes}
 

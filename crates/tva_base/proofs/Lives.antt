@@ -1,5 +1,5 @@
 -- What stands behind some members ends no later than all together.
-use Rattle.std.proofs.Common.{◌≤◌, ℕ, List, [], ◌∷◌, ◌++◌, arith}
+use Rattle.tva_base.proofs.Common.{◌≤◌, ℕ, List, [], ◌∷◌, ◌++◌, arith}
 use Rattle.tva_base.specs.Lives.{latest_end}
 
 pub latest_end-back : {A : Type 0} (time credit : A → ℕ) (xs ys : List A) → latest_end time credit ys ≤ latest_end time credit (xs ++ ys)

@@ -1,6 +1,5 @@
 -- Addresses that are zero past a prefix.
-use Rattle.std.proofs.Common.{◌≡◌, ℕ, ◌*◌, ◌%◌}
-use Rattle.std.proofs.Math.Nat.{mul-mod_left}
+use Rattle.tva_base.proofs.Common.{◌≡◌, ℕ, ◌*◌, ◌%◌, mul-mod_left}
 
 -- a multiple of a number leaves nothing over
 pub multiple : (times size : ℕ) → times * size % size ≡ 0

@@ -1,10 +1,7 @@
 -- The number of rights, and the rights of a number.
-use Rattle.std.proofs.Common.{◌≡◌, ℕ, ◌+◌, ◌*◌, ◌/◌, ◌%◌, ◌^◌, ◌<◌, ◌≤◌, Bool, true, false, cond, eqb, leb, refl, ap, sym, ◌∙◌, arith}
-use Rattle.std.proofs.Math.Nat.{div-add-mod', mod-eq_of_lt, mul-add-mod_self_right}
-use Rattle.std.proofs.lemmas.Bool.{and_from, and_parts, le-leb, leb-true}
+use Rattle.tva_base.proofs.Common.{◌≡◌, ℕ, ◌+◌, ◌*◌, ◌/◌, ◌%◌, ◌^◌, ◌<◌, ◌≤◌, Bool, true, false, cond, eqb, leb, refl, ap, sym, ◌∙◌, arith, div-add-mod', mod-eq_of_lt, mul-add-mod_self_right, and_from, and_parts, le-leb, leb-true, AreRights, AreSomeRights, carries, rights_number, rights_size, seconds_max, units_max, version_for}
 use Rattle.std.proofs.lemmas.Nat.{div-mul-add}
 use Rattle.tva_base.specs.declared.packet.Rights.{Rights}
-use Rattle.tva_base.specs.Versions.{AreRights, AreSomeRights, carries, rights_number, rights_size, seconds_max, units_max, version_for}
 
 -- ---- by whether the version is 1
 

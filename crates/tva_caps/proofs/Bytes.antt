@@ -1,6 +1,5 @@
 -- The bytes of numbers and of digests.
-use Rattle.std.proofs.Common.{ℕ, zero, suc, ◌<◌, List, [], ◌∷◌, ◌++◌, get_or, arith}
-use Rattle.std.proofs.Math.Nat.{mod-lt}
+use Rattle.tva_caps.proofs.Common.{ℕ, zero, suc, ◌<◌, List, [], ◌∷◌, ◌++◌, get_or, arith, mod-lt}
 use Rattle.std.specs.Int.{byte_at, bytes_high_first}
 use Rattle.sha2.specs.Sha256.{digest_bytes, sha256}
 

@@ -1,11 +1,7 @@
 -- In which seconds a capability is taken.
-use Rattle.std.proofs.Common.{◌≡◌, ℕ, ◌+◌, ◌-◌, ◌<◌, ◌≤◌, Bool, true, false, cond, ltb, leb, List, ap, sym, ◌∙◌, subst, refl, arith}
-use Rattle.std.proofs.Math.Nat.{add-sub_cancel}
+use Rattle.tva_caps.proofs.Common.{◌≡◌, ℕ, ◌+◌, ◌-◌, ◌<◌, ◌≤◌, Bool, true, false, cond, ltb, leb, List, ap, sym, ◌∙◌, subst, refl, arith, add-sub_cancel, Flow, Rights, age_of, capability_of, precap_of, stamp_at, stamp_of}
 use Rattle.std.proofs.lemmas.Bool.{eq-eqb, le-leb, le-ltb}
 use Rattle.std.proofs.lemmas.Bool.Decides.{nat_tests}
-use Rattle.tva_base.specs.declared.packet.Flow.{Flow}
-use Rattle.tva_base.specs.declared.packet.Rights.{Rights}
-use Rattle.tva_caps.specs.Formula.{age_of, capability_of, precap_of, stamp_at, stamp_of}
 use Rattle.tva_caps.specs.Check.{check_of, checked_at}
 use Rattle.tva_caps.specs.declared.minters.Checked.{Checked}
 use Rattle.tva_caps.specs.declared.minters.Checked.TheVariants.{BadHash, Expired, Valid}

@@ -1,3 +1,4 @@
+mod Common
 pub mod Bytes
 pub mod Lasts
 pub mod Stamps

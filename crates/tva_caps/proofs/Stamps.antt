@@ -1,12 +1,8 @@
 -- What is made in a second shows that second's stamp, so its age is the seconds since then.
-use Rattle.std.proofs.Common.{◌≡◌, ℕ, zero, suc, ◌+◌, ◌-◌, ◌*◌, ◌/◌, ◌%◌, ◌^◌, ◌<◌, List, [], ◌∷◌, take, ap, ◌∙◌, arith}
-use Rattle.std.proofs.Math.Nat.{mod-lt}
+use Rattle.tva_caps.proofs.Common.{◌≡◌, ℕ, zero, suc, ◌+◌, ◌-◌, ◌*◌, ◌/◌, ◌%◌, ◌^◌, ◌<◌, List, [], ◌∷◌, take, ap, ◌∙◌, arith, mod-lt, Flow, Rights, age_of, capability_of, precap_of, precap_under, stamp_at, stamp_of, stamped}
 use Rattle.byteorder.specs.Endian.{big_from, big_number}
 use Rattle.byteorder.specs.Numbers.{big_from-lt}
 use Rattle.sha2.specs.Sha256.{sha256}
-use Rattle.tva_base.specs.declared.packet.Flow.{Flow}
-use Rattle.tva_base.specs.declared.packet.Rights.{Rights}
-use Rattle.tva_caps.specs.Formula.{age_of, capability_of, precap_of, precap_under, stamp_at, stamp_of, stamped}
 use Rattle.tva_caps.proofs.Bytes.{AreBytes, AreBytes-digest}
 
 AreBytes-take : (n : ℕ) (xs : List ℕ) → AreBytes xs → AreBytes (take n xs)

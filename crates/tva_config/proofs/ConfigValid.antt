@@ -1,33 +1,12 @@
 -- A configuration that all steps accept is valid.
-use Rattle.std.proofs.Common.{◌≡◌, ◌<◌, ◌≤◌, ◌==◌, ℕ, ◌+◌, ◌^◌, suc, Bool, true, false, cond, nat_lt, List, [], ◌∷◌, ◌++◌, length, map, sum_by, Ok, Option, Some, None, All, refl, ap, sym, ◌∙◌, subst, arith, length-append}
-use Rattle.std.specs.List.{cons_option, filter_map}
-use Rattle.std.proofs.lemmas.Bool.{ltb-false}
-use Rattle.std.proofs.lemmas.Bool.Decides.{nat_tests}
-use Rattle.std.proofs.lemmas.List.{map-append, length-map}
-use Rattle.std.proofs.lemmas.List.Elements.{All-append, All-map, All-nil}
+use Rattle.tva_config.proofs.Common.{◌≡◌, ◌<◌, ◌≤◌, ◌==◌, ℕ, ◌+◌, ◌^◌, suc, Bool, true, false, cond, nat_lt, List, [], ◌∷◌, ◌++◌, length, map, sum_by, Ok, Option, Some, None, All, refl, ap, sym, ◌∙◌, subst, arith, length-append, cons_option, filter_map, ltb-false, nat_tests, map-append, length-map, All-append, All-map, All-nil, LinkPlan, AreDistinct, RouterEntry, HostEntry, LinkEntry, OwnedRoute, OwnedRestart, OwnedReroute, at, fault_at, node_names, node_of, all_slots, all_places, Owned, router_plan, host_plan, router_plans, slots_of, links_of, uplinks_of, rings_of, if_owned, routes_at, if_restart, restarts_at, if_reroute, reroutes_at, host_plans, config_of, IsRouterEntry, IsHostEntry, IsLinkEntry, IsName, IsNodePlan, HasPolicy, IsLinkPlan, AreWired, AreRoutersFirst, addresses_at, IsConfig, all_cons, unless_gave}
 use Rattle.std.proofs.lemmas.List.Sums.{sum_by-cons, sum_by-append}
-use Rattle.tva_base.specs.declared.plan.LinkPlan.{LinkPlan}
-use Rattle.tva_base.specs.Plan.{AreDistinct}
 use Rattle.tva_plan.specs.declared.config.NodePlan as nodes
 use Rattle.tva_plan.specs.declared.config.NodePlan.TheVariants as node
 use Rattle.tva_config_entries.specs.declared.faults.ConfigTable.TheVariants as table
 use Rattle.tva_config_entries.specs.declared.faults.ConfigRule.TheVariants as rule
-use Rattle.tva_config_entries.specs.declared.entries.RouterEntry.{RouterEntry}
-use Rattle.tva_config_entries.specs.declared.entries.HostEntry.{HostEntry}
-use Rattle.tva_config_entries.specs.declared.entries.LinkEntry.{LinkEntry}
-use Rattle.tva_config.specs.declared.joined.OwnedRoute.{OwnedRoute}
-use Rattle.tva_config.specs.declared.joined.OwnedRestart.{OwnedRestart}
-use Rattle.tva_config.specs.declared.joined.OwnedReroute.{OwnedReroute}
-use Rattle.tva_config_entries.specs.Faults.{at, fault_at}
-use Rattle.tva_config.specs.Nodes.{node_names, node_of, all_slots}
-use Rattle.tva_plan.specs.Wiring.{all_places}
 use Rattle.tva_plan.specs.Names.{name_at, is_host_plan}
 use Rattle.tva_plan.specs.Counts.{routes_in, restarts_in, reroutes_in, slots_in}
-use Rattle.tva_config.specs.Read.{Owned, router_plan, host_plan, router_plans}
-use Rattle.tva_config.specs.Stages.{slots_of, links_of, uplinks_of, rings_of, if_owned, routes_at, if_restart, restarts_at, if_reroute, reroutes_at, host_plans, config_of}
-use Rattle.tva_config_entries.proofs.Ranges.{IsRouterEntry, IsHostEntry, IsLinkEntry}
-use Rattle.tva_plan.specs.Valid.{IsName, IsNodePlan, HasPolicy, IsLinkPlan, AreWired, AreRoutersFirst, addresses_at, IsConfig}
-use Rattle.tva_config_entries.proofs.Turns.{all_cons, unless_gave}
 use Rattle.tva_config.proofs.StepsLinks.{AreLinks, links_keep, AreUplinks, uplinks_keep}
 use Rattle.tva_config.proofs.PlanValid.{AreOwned, router_valid, host_valid}
 

@@ -1,14 +1,5 @@
 -- Maps of last times, and one more time.
-use Rattle.std.proofs.Common.{◌≡◌, ◌==◌, ◌||◌, ◌&&◌, nat_eq, ℕ, true, false, cond, List, [], ◌∷◌, ◌++◌, Some, ap, sym, ◌∙◌, eqb-true}
-use Rattle.std.specs.List.{list_any}
-use Rattle.std.specs.HashMap.{get}
-use Rattle.std.proofs.lemmas.Bool.{and_parts}
-use Rattle.std.proofs.lemmas.List.Folds.{list_any-append}
-use Rattle.tva_base.specs.declared.addresses.Prefix.{Prefix}
-use Rattle.tva_config.specs.declared.joined.OwnedRestart.{OwnedRestart}
-use Rattle.tva_config.specs.declared.joined.OwnedReroute.{OwnedReroute}
-use Rattle.tva_config.specs.Changes.{is_late_restart, is_late_reroute}
-use Rattle.tva_config.specs.Views.{is_late, Restarted, IsRestarted, Rerouted, same_route, IsRerouted}
+use Rattle.tva_config.proofs.Common.{◌≡◌, ◌==◌, ◌||◌, ◌&&◌, nat_eq, ℕ, true, false, cond, List, [], ◌∷◌, ◌++◌, Some, ap, sym, ◌∙◌, eqb-true, list_any, get, and_parts, list_any-append, Prefix, OwnedRestart, OwnedReroute, is_late_restart, is_late_reroute, is_late, Restarted, IsRestarted, Rerouted, same_route, IsRerouted}
 use Rattle.tva_config.proofs.Rising.{pushed_late}
 
 pub restarted_push : (old new : Restarted) (done : List OwnedRestart) (r : OwnedRestart) → IsRestarted old done

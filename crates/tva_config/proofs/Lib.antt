@@ -1,3 +1,4 @@
+mod Common
 pub mod ConfigValid
 pub mod Lasts
 pub mod Longer

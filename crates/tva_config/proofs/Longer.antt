@@ -1,9 +1,5 @@
 -- A list that grows from the front of another.
-use Rattle.std.proofs.Common.{◌≡◌, ◌∙◌, ◌==◌, ◌<◌, ◌≤◌, ◌+◌, ℕ, cond, List, [], ◌∷◌, ◌++◌, length, get_or, drop, Option, Some, None, sym, ap, arith, append_assoc, append-nil}
-use Rattle.std.specs.List.{cons_option, filter_map}
-use Rattle.std.proofs.lemmas.Bool.Decides.{nat_tests}
-use Rattle.std.proofs.lemmas.List.{drop_more, drop_all}
-use Rattle.tva_plan.specs.Wiring.{picked}
+use Rattle.tva_config.proofs.Common.{◌≡◌, ◌∙◌, ◌==◌, ◌<◌, ◌≤◌, ◌+◌, ℕ, cond, List, [], ◌∷◌, ◌++◌, length, get_or, drop, Option, Some, None, sym, ap, arith, append_assoc, append-nil, cons_option, filter_map, nat_tests, drop_more, drop_all, picked}
 
 -- one more element is found, and the rest is one shorter
 pub longer : {B : Type 0} (found now : List B) (y : B) (before rest all : List B)

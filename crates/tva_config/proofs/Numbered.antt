@@ -1,26 +1,8 @@
 -- Maps that number names or pairs, and one more of them.
-use Rattle.std.proofs.Common.{◌≡◌, ◌<◌, ◌≤◌, ◌-◌, map, take, drop, get_or, Err, codes, ℕ, ◌+◌, ◌==◌, ◌||◌, Bool, true, false, not, cond, List, [], ◌∷◌, ◌++◌, length, Some, None, is_some, refl, ap, sym, subst, ◌∙◌, eqb-true, arith, length-append}
-use Rattle.std.specs.List.{list_any, position_from}
-use Rattle.std.specs.Str.{bytes_eq}
-use Rattle.std.specs.HashMap.{get}
-use Rattle.std.proofs.lemmas.Bool.{and_parts}
-use Rattle.std.proofs.lemmas.List.Folds.{list_any-append}
-use Rattle.std.proofs.lemmas.List.{take_more, drop_more, take_all, get_or-map, get_or_append_left, get_or-append_right, length-map, length-take-le, map-append}
-use Rattle.tva_base.specs.declared.addresses.Address.{Address}
+use Rattle.tva_config.proofs.Common.{◌≡◌, ◌<◌, ◌≤◌, ◌-◌, map, take, drop, get_or, Err, codes, ℕ, ◌+◌, ◌==◌, ◌||◌, Bool, true, false, not, cond, List, [], ◌∷◌, ◌++◌, length, Some, None, is_some, refl, ap, sym, subst, ◌∙◌, eqb-true, arith, length-append, list_any, position_from, bytes_eq, get, and_parts, list_any-append, take_more, drop_more, take_all, get_or-map, get_or_append_left, get_or-append_right, length-map, length-take-le, map-append, Address, RouterEntry, HostEntry, in_turn, at, fault_at, node_names, node_of, node_place, name_step, address_step, Continues, LinkPlan, get_by_text, same_from_decides, bytes_eq-Decides, joins, Numbers, IsNumbers, Pairs, same_ends, link_at, IsPairs}
 use Rattle.tva_config_entries.specs.declared.faults.ConfigRule.TheVariants as rule
 use Rattle.tva_config_entries.specs.declared.faults.ConfigTable.TheVariants as table
-use Rattle.tva_config_entries.specs.declared.entries.RouterEntry.{RouterEntry}
-use Rattle.tva_config_entries.specs.declared.entries.HostEntry.{HostEntry}
-use Rattle.tva_config_entries.specs.Faults.{in_turn, at, fault_at}
-use Rattle.tva_config.specs.Nodes.{node_names, node_of, node_place, name_step, address_step}
-use Rattle.tva_config_entries.proofs.InTurn.{Continues}
-use Rattle.tva_base.specs.declared.plan.LinkPlan.{LinkPlan}
-use Rattle.std.specs.HashMap.{get_by_text}
 use Rattle.std.specs.Map.{update}
-use Rattle.std.proofs.lemmas.Bool.Decides.{same_from_decides}
-use Rattle.std.proofs.lemmas.Slice.Eq.{bytes_eq-Decides}
-use Rattle.tva_config.specs.Links.{joins}
-use Rattle.tva_config.specs.Views.{Numbers, IsNumbers, Pairs, same_ends, link_at, IsPairs}
 use Rattle.tva_config.proofs.Positions.{position_is_some, position_push, position_or_none}
 
 -- a pair is among the links where the map has it

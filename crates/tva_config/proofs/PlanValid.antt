@@ -1,27 +1,10 @@
 -- Plans that were made of valid entries, links and routes are valid.
-use Rattle.std.proofs.Common.{◌≡◌, ◌<◌, ◌≤◌, ◌==◌, ℕ, ◌+◌, ◌^◌, ◌&&◌, ◌||◌, zero, suc, Bool, true, false, cond, List, [], ◌∷◌, map, filter, Option, Some, None, All, Contains, refl, ap, sym, ◌∙◌, subst, arith}
-use Rattle.std.specs.List.{cons_option, filter_map, list_any}
-use Rattle.std.proofs.lemmas.Bool.{and_parts, eqb-true}
-use Rattle.std.proofs.lemmas.List.Elements.{All-nil}
-use Rattle.tva_base.specs.declared.addresses.Prefix.{Prefix}
-use Rattle.tva_base.specs.declared.limits.LinkLimits.{LinkLimits}
+use Rattle.tva_config.proofs.Common.{◌≡◌, ◌<◌, ◌≤◌, ◌==◌, ℕ, ◌+◌, ◌^◌, ◌&&◌, ◌||◌, zero, suc, Bool, true, false, cond, List, [], ◌∷◌, map, filter, Option, Some, None, All, Contains, refl, ap, sym, ◌∙◌, subst, arith, cons_option, filter_map, list_any, and_parts, All-nil, Prefix, LinkLimits, LinkPlan, AreLinkLimits, AreDistinct, AreRising, IsPrefix, IsRouterPlan, IsHostPlan, RouterEntry, HostEntry, OwnedRoute, OwnedRestart, OwnedReroute, picked, tagged_to, incoming_of, limited_from, outgoing_of, Owned, router_plan, host_plan, is_for, if_owned, routes_at, if_restart, restarts_at, if_reroute, reroutes_at, is_restart_of, is_reroute_of, IsRouterEntry, IsHostEntry, IsLinkPlan, all_cons}
+use Rattle.std.proofs.lemmas.Bool.{eqb-true}
 use Rattle.tva_base.specs.declared.packet.Time.{Time}
-use Rattle.tva_base.specs.declared.plan.LinkPlan.{LinkPlan}
 use Rattle.tva_base.specs.declared.plan.Route.{Route}
-use Rattle.tva_base.specs.Plan.{AreLinkLimits, AreDistinct, AreRising, IsPrefix, IsRouterPlan, IsHostPlan, links_of}
+use Rattle.tva_base.specs.Plan.{links_of}
 use Rattle.tva_base.specs.Changes.{of_prefix}
-use Rattle.tva_config_entries.specs.declared.entries.RouterEntry.{RouterEntry}
-use Rattle.tva_config_entries.specs.declared.entries.HostEntry.{HostEntry}
-use Rattle.tva_config.specs.declared.joined.OwnedRoute.{OwnedRoute}
-use Rattle.tva_config.specs.declared.joined.OwnedRestart.{OwnedRestart}
-use Rattle.tva_config.specs.declared.joined.OwnedReroute.{OwnedReroute}
-use Rattle.tva_plan.specs.Wiring.{picked, tagged_to, incoming_of, limited_from, outgoing_of}
-use Rattle.tva_config.specs.Read.{Owned, router_plan, host_plan}
-use Rattle.tva_config.specs.Routes.{is_for}
-use Rattle.tva_config.specs.Stages.{if_owned, routes_at, if_restart, restarts_at, if_reroute, reroutes_at, is_restart_of, is_reroute_of}
-use Rattle.tva_config_entries.proofs.Ranges.{IsRouterEntry, IsHostEntry}
-use Rattle.tva_plan.specs.Valid.{IsLinkPlan}
-use Rattle.tva_config_entries.proofs.Turns.{all_cons}
 use Rattle.tva_config.proofs.StepsChanges.{AreRestarts, IsMoved, AreReroutes}
 use Rattle.tva_config.proofs.StepsRoutes.{contains_cons, IsOwned, key_of, AreRoutes}
 

@@ -1,28 +1,14 @@
 -- What is read of a text is valid.
-use Rattle.std.proofs.Common.{◌≡◌, ℕ, List, [], length, Option, Result, Ok, Err, IfOk, All, ◌∙◌, subst, arith}
-use Rattle.tva_base.specs.declared.plan.LinkPlan.{LinkPlan}
-use Rattle.tva_base.specs.Plan.{AreDistinct}
-use Rattle.tva_plan.specs.declared.config.Config.{Config}
+use Rattle.tva_config.proofs.Common.{◌≡◌, ℕ, List, [], length, Option, Result, Ok, Err, IfOk, All, ◌∙◌, subst, arith, LinkPlan, AreDistinct, Config, Answers, ConfigEntries, node_names, node_of, link_between, link_step, uplink_step, route_step, restart_step, reroute_step, Owned, plan_of, read_of, names_of, addresses_of, retries_of, slots_of, links_of, uplinks_of, rings_of, routes_of, restarts_of, reroutes_of, config_of, owned_of, Joined, joined_of, linked_of, planned_of, AreEntries, IsRouteEntry, IsConfig, first_gave, when_gave, gave_one, in_turn_long}
 use Rattle.tva_config_entries.specs.declared.faults.ConfigError.{ConfigError}
-use Rattle.tva_config_entries.specs.Faults.{Answers}
-use Rattle.tva_config_entries.specs.Tables.{ConfigEntries}
 use Rattle.tva_config_entries.specs.Reading.{entries_read}
-use Rattle.tva_config.specs.Nodes.{node_names, node_of}
-use Rattle.tva_config.specs.Links.{link_between, link_step, uplink_step}
-use Rattle.tva_config.specs.Routes.{route_step}
-use Rattle.tva_config.specs.Changes.{restart_step, reroute_step}
-use Rattle.tva_config.specs.Read.{Owned, plan_of, read_of}
-use Rattle.tva_config.specs.Stages.{names_of, addresses_of, retries_of, slots_of, links_of, uplinks_of, rings_of, routes_of, restarts_of, reroutes_of, config_of, owned_of, Joined, joined_of, linked_of, planned_of}
-use Rattle.tva_config_entries.proofs.Ranges.{AreEntries, IsRouteEntry}
 use Rattle.tva_config_entries.proofs.ReadingValid.{read_entries_valid}
-use Rattle.tva_plan.specs.Valid.{IsConfig}
 use Rattle.tva_config.proofs.ConfigValid.{Passed, config_valid}
 use Rattle.tva_config.proofs.PlanValid.{AreOwned}
 use Rattle.tva_config.proofs.Staged.{plan_staged}
 use Rattle.tva_config.proofs.StepsRoutes.{routes_keep}
 use Rattle.tva_config.proofs.StepsChanges.{restarts_keep, reroutes_keep}
 use Rattle.tva_config.proofs.StepsKeep.{names_are, names_distinct, addresses_are, addresses_distinct, retries_late}
-use Rattle.tva_config_entries.proofs.Turns.{first_gave, when_gave, gave_one, in_turn_long}
 
 abbrev Joins : ConfigEntries → Joined → Type 0
 Joins e j = Passed e.horizon e.max_events e.routers e.hosts e.links j.links j.uplinks j.owned

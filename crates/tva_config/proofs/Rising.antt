@@ -1,13 +1,5 @@
 -- Times that rise, and one more of them.
-use Rattle.std.proofs.Common.{◌≡◌, ◌<◌, ◌&&◌, ◌||◌, ℕ, nat_le, suc, Bool, true, false, cond, List, [], ◌∷◌, ◌++◌, map, filter, Option, Some, None, All, refl, sym, subst, arith, append-nil}
-use Rattle.std.specs.List.{list_any}
-use Rattle.std.proofs.lemmas.Bool.{leb-false}
-use Rattle.std.proofs.lemmas.Bool.Decides.{nat_tests}
-use Rattle.std.proofs.lemmas.List.{map-append}
-use Rattle.std.proofs.lemmas.List.Elements.{All-nil, filter-append}
-use Rattle.tva_base.specs.Plan.{AreRising}
-use Rattle.tva_config.specs.Views.{is_late}
-use Rattle.tva_config_entries.proofs.Turns.{all_cons, all_push}
+use Rattle.tva_config.proofs.Common.{◌≡◌, ◌<◌, ◌&&◌, ◌||◌, ℕ, nat_le, suc, Bool, true, false, cond, List, [], ◌∷◌, ◌++◌, map, filter, Option, Some, None, All, refl, sym, subst, arith, append-nil, list_any, leb-false, nat_tests, map-append, All-nil, filter-append, AreRising, is_late, all_cons, all_push}
 use Rattle.tva_config.proofs.StepsKeep.{or_false}
 
 -- a number above all others, behind them

@@ -1,26 +1,10 @@
 -- The steps of the plan, cut as the functions of the code take them, give what they give in one.
-use Rattle.std.proofs.Common.{◌≡◌, ◌++◌, nat_lt, List, [], ◌∷◌, ℕ, length, map, Ok, Err, codes, refl, ap}
-use Rattle.std.specs.List.{zip}
-use Rattle.tva_base.specs.declared.plan.LinkPlan.{LinkPlan}
-use Rattle.tva_config_entries.specs.declared.entries.HostEntry.{HostEntry}
+use Rattle.tva_config.proofs.Common.{◌≡◌, ◌++◌, nat_lt, List, [], ◌∷◌, ℕ, length, map, Ok, Err, codes, refl, ap, zip, LinkPlan, HostEntry, Read, ◌>>=◌, at, fault_at, unless, in_turn, ConfigEntries, Config, OwnedRoute, OwnedRestart, OwnedReroute, all_places, node_names, node_of, name_step, address_step, retry_step, all_slots, link_between, link_step, uplink_step, route_step, restart_step, reroute_step, Owned, router_plans, host_plan, plan_of, names_of, addresses_of, retries_of, slots_of, links_of, uplinks_of, rings_of, routes_of, restarts_of, reroutes_of, host_plans, config_of, owned_of, linked_of, joined_of, planned_of}
 use Rattle.tva_config_entries.specs.declared.faults.ConfigTable.TheVariants as table
 use Rattle.tva_config_entries.specs.declared.faults.ConfigRule.TheVariants as rule
-use Rattle.tva_config_entries.specs.Faults.{Read, ◌>>=◌, at, fault_at, unless, in_turn}
-use Rattle.tva_config_entries.specs.Tables.{ConfigEntries}
 use Rattle.tva_config_entries.proofs.Staged.{deeper}
-use Rattle.tva_plan.specs.declared.config.Config.{Config}
 use Rattle.tva_plan.specs.declared.config.NodePlan as nodes
 use Rattle.tva_plan.specs.declared.config.NodePlan.TheVariants as node
-use Rattle.tva_config.specs.declared.joined.OwnedRoute.{OwnedRoute}
-use Rattle.tva_config.specs.declared.joined.OwnedRestart.{OwnedRestart}
-use Rattle.tva_config.specs.declared.joined.OwnedReroute.{OwnedReroute}
-use Rattle.tva_plan.specs.Wiring.{all_places}
-use Rattle.tva_config.specs.Nodes.{node_names, node_of, name_step, address_step, retry_step, all_slots}
-use Rattle.tva_config.specs.Links.{link_between, link_step, uplink_step}
-use Rattle.tva_config.specs.Routes.{route_step}
-use Rattle.tva_config.specs.Changes.{restart_step, reroute_step}
-use Rattle.tva_config.specs.Read.{Owned, router_plans, host_plan, plan_of}
-use Rattle.tva_config.specs.Stages.{names_of, addresses_of, retries_of, slots_of, links_of, uplinks_of, rings_of, routes_of, restarts_of, reroutes_of, host_plans, config_of, owned_of, linked_of, joined_of, planned_of}
 
 hosts_zipped : (hs : List HostEntry) (us : List ℕ) → host_plans hs us ≡ map (λ h. node.Host (host_plan h.0 h.1)) (zip hs us)
 hosts_zipped [] us = refl

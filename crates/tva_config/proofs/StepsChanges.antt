@@ -1,25 +1,10 @@
 -- What the steps over restarts and changes of routes show of those that they accept.
-use Rattle.std.proofs.Common.{◌≡◌, ◌==◌, ℕ, ◌&&◌, true, false, not, List, [], ◌∷◌, ◌++◌, length, map, filter, Ok, Option, All, Contains, subst, eqb-true}
-use Rattle.std.specs.List.{list_any}
-use Rattle.std.proofs.lemmas.Bool.{and_parts}
-use Rattle.std.proofs.lemmas.List.Elements.{All-nil}
-use Rattle.tva_base.specs.declared.addresses.Prefix.{Prefix}
-use Rattle.tva_base.specs.declared.plan.LinkPlan.{LinkPlan}
-use Rattle.tva_base.specs.Plan.{AreRising, links_of}
+use Rattle.tva_config.proofs.Common.{◌≡◌, ◌==◌, ℕ, ◌&&◌, true, false, not, List, [], ◌∷◌, ◌++◌, length, map, filter, Ok, Option, All, Contains, subst, eqb-true, list_any, and_parts, All-nil, Prefix, LinkPlan, AreRising, OwnedRoute, OwnedRestart, OwnedReroute, at, fault_at, unless, found, link_between, outgoing_of, router_named, is_for, resolved, is_late_restart, restart_step, is_late_reroute, reroute_step, is_restart_of, restarts_of, is_reroute_of, reroutes_of, first_gave, unless_gave, in_turn_keeps, all_push}
+use Rattle.tva_base.specs.Plan.{links_of}
 use Rattle.tva_config_entries.specs.declared.faults.ConfigTable.TheVariants as table
 use Rattle.tva_config_entries.specs.declared.faults.ConfigRule.TheVariants as rule
 use Rattle.tva_config_entries.specs.declared.entries.RestartEntry.{RestartEntry}
 use Rattle.tva_config_entries.specs.declared.entries.RerouteEntry.{RerouteEntry}
-use Rattle.tva_config.specs.declared.joined.OwnedRoute.{OwnedRoute}
-use Rattle.tva_config.specs.declared.joined.OwnedRestart.{OwnedRestart}
-use Rattle.tva_config.specs.declared.joined.OwnedReroute.{OwnedReroute}
-use Rattle.tva_config_entries.specs.Faults.{at, fault_at, unless, found}
-use Rattle.tva_config.specs.Links.{link_between}
-use Rattle.tva_plan.specs.Wiring.{outgoing_of}
-use Rattle.tva_config.specs.Routes.{router_named, is_for, resolved}
-use Rattle.tva_config.specs.Changes.{is_late_restart, restart_step, is_late_reroute, reroute_step}
-use Rattle.tva_config.specs.Stages.{is_restart_of, restarts_of, is_reroute_of, reroutes_of}
-use Rattle.tva_config_entries.proofs.Turns.{first_gave, unless_gave, in_turn_keeps, all_push}
 use Rattle.tva_config.proofs.Numbered.{untrue}
 use Rattle.tva_config.proofs.Rising.{rising_more}
 use Rattle.tva_config.proofs.StepsRoutes.{resolved_shows}

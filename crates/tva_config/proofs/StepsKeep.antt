@@ -1,20 +1,7 @@
 -- What the steps across tables show of what they accept.
-use Rattle.std.proofs.Common.{◌≡◌, ◌<◌, ◌≤◌, ◌==◌, ℕ, ◌+◌, zero, suc, Bool, true, false, ◌||◌, nat_lt, List, [], ◌∷◌, ◌++◌, length, get_or, map, Ok, All, Contains, refl, ap, sym, ◌∙◌, subst, arith}
-use Rattle.std.specs.List.{list_any}
-use Rattle.std.specs.Str.{bytes_eq}
-use Rattle.std.proofs.lemmas.Bool.{eq-eqb, ltb-false}
-use Rattle.std.proofs.lemmas.List.{map-id}
-use Rattle.std.proofs.lemmas.Slice.Eq.{bytes_eq-Decides}
-use Rattle.tva_base.specs.declared.addresses.Address.{Address}
-use Rattle.tva_base.specs.Plan.{AreDistinct}
+use Rattle.tva_config.proofs.Common.{◌≡◌, ◌<◌, ◌≤◌, ◌==◌, ℕ, ◌+◌, zero, suc, Bool, true, false, ◌||◌, nat_lt, List, [], ◌∷◌, ◌++◌, length, get_or, map, Ok, All, Contains, refl, ap, sym, ◌∙◌, subst, arith, list_any, bytes_eq, eq-eqb, ltb-false, map-id, bytes_eq-Decides, Address, AreDistinct, RouterEntry, HostEntry, at, fault_at, unless, node_names, node_place, name_step, address_step, retry_step, names_of, addresses_of, retries_of, first_gave, unless_gave, in_turn_keeps, in_turn_maps, in_turn_shows, distinct_push}
 use Rattle.tva_config_entries.specs.declared.faults.ConfigTable.TheVariants as table
 use Rattle.tva_config_entries.specs.declared.faults.ConfigRule.TheVariants as rule
-use Rattle.tva_config_entries.specs.declared.entries.RouterEntry.{RouterEntry}
-use Rattle.tva_config_entries.specs.declared.entries.HostEntry.{HostEntry}
-use Rattle.tva_config_entries.specs.Faults.{at, fault_at, unless}
-use Rattle.tva_config.specs.Nodes.{node_names, node_place, name_step, address_step, retry_step}
-use Rattle.tva_config.specs.Stages.{names_of, addresses_of, retries_of}
-use Rattle.tva_config_entries.proofs.Turns.{first_gave, unless_gave, in_turn_keeps, in_turn_maps, in_turn_shows, distinct_push}
 
 pub or_false : (a b : Bool) → (a || b) ≡ false → (a ≡ false) × (b ≡ false)
 or_false true b is = absurd (cc)

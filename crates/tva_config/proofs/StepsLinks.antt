@@ -1,24 +1,7 @@
 -- What the steps over links show of the links that they accept.
-use Rattle.std.proofs.Common.{◌≡◌, ◌<◌, ◌==◌, ℕ, ◌+◌, ◌^◌, Bool, true, false, ◌&&◌, cond, List, [], ◌∷◌, ◌++◌, length, map, Ok, Some, All, refl, ap, sym, ◌∙◌, subst, arith}
-use Rattle.std.specs.List.{list_any, position_from}
-use Rattle.std.specs.Str.{bytes_eq}
-use Rattle.std.proofs.lemmas.Bool.{eq-eqb}
-use Rattle.std.proofs.lemmas.List.{map-append}
-use Rattle.std.proofs.lemmas.List.Elements.{All-nil}
-use Rattle.tva_base.specs.declared.plan.LinkPlan.{LinkPlan}
-use Rattle.tva_base.specs.Plan.{AreDistinct}
+use Rattle.tva_config.proofs.Common.{◌≡◌, ◌<◌, ◌==◌, ℕ, ◌+◌, ◌^◌, Bool, true, false, ◌&&◌, cond, List, [], ◌∷◌, ◌++◌, length, map, Ok, Some, All, refl, ap, sym, ◌∙◌, subst, arith, list_any, position_from, bytes_eq, eq-eqb, map-append, All-nil, LinkPlan, AreDistinct, HostEntry, LinkEntry, at, fault_at, unless, found, node_of, joins, link_step, only, uplink_step, links_of, uplinks_of, links_from, IsLinkEntry, IsLinkPlan, ends_of, first_gave, unless_gave, found_gave, in_turn_keeps, in_turn_keeps_of, distinct_push, all_push}
 use Rattle.tva_config_entries.specs.declared.faults.ConfigTable.TheVariants as table
 use Rattle.tva_config_entries.specs.declared.faults.ConfigRule.TheVariants as rule
-use Rattle.tva_config_entries.specs.declared.entries.HostEntry.{HostEntry}
-use Rattle.tva_config_entries.specs.declared.entries.LinkEntry.{LinkEntry}
-use Rattle.tva_config_entries.specs.Faults.{at, fault_at, unless, found}
-use Rattle.tva_config.specs.Nodes.{node_of}
-use Rattle.tva_config.specs.Links.{joins, link_step, only, uplink_step}
-use Rattle.tva_config.specs.Stages.{links_of, uplinks_of}
-use Rattle.tva_plan.specs.Wiring.{links_from}
-use Rattle.tva_config_entries.proofs.Ranges.{IsLinkEntry}
-use Rattle.tva_plan.specs.Valid.{IsLinkPlan, ends_of}
-use Rattle.tva_config_entries.proofs.Turns.{first_gave, unless_gave, found_gave, in_turn_keeps, in_turn_keeps_of, distinct_push, all_push}
 use Rattle.tva_config.proofs.StepsKeep.{not_in, any_of_map}
 
 position_at : {A : Type 0} (test : A → Bool) (k : ℕ) (xs : List A) (n : ℕ) (b : Bool) → (position_from test (k + 1) xs ≡ Some n → n < (k + 1) + length xs)

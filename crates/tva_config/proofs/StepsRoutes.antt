@@ -1,25 +1,10 @@
 -- What the steps over routes show of the routes that they accept.
-use Rattle.std.proofs.Common.{◌≡◌, ◌==◌, ℕ, ◌+◌, suc, Bool, true, false, ◌&&◌, cond, List, [], ◌∷◌, ◌++◌, length, map, Ok, Option, Some, None, option_and_then, All, Contains, refl, sym, ◌∙◌, subst, arith}
-use Rattle.std.specs.List.{list_any, position_from, cons_option}
-use Rattle.std.proofs.lemmas.Bool.{eq-eqb, and_parts}
-use Rattle.std.proofs.lemmas.List.{map-append}
-use Rattle.std.proofs.lemmas.List.Elements.{All-nil}
-use Rattle.tva_base.specs.declared.addresses.Prefix.{Prefix}
-use Rattle.tva_base.specs.declared.limits.LinkLimits.{LinkLimits}
-use Rattle.tva_base.specs.declared.plan.LinkPlan.{LinkPlan}
-use Rattle.tva_base.specs.Plan.{AreDistinct, IsPrefix, links_of}
+use Rattle.tva_config.proofs.Common.{◌≡◌, ◌==◌, ℕ, ◌+◌, suc, Bool, true, false, ◌&&◌, cond, List, [], ◌∷◌, ◌++◌, length, map, Ok, Option, Some, None, option_and_then, All, Contains, refl, sym, ◌∙◌, subst, arith, list_any, position_from, cons_option, eq-eqb, and_parts, map-append, All-nil, Prefix, LinkLimits, LinkPlan, AreDistinct, IsPrefix, OwnedRoute, at, fault_at, unless, found, joins, link_between, picked, limited_from, outgoing_of, router_named, is_for, resolved, route_step, link_to, routes_of, IsRouteEntry, first_gave, unless_gave, found_gave, in_turn_keeps_of, distinct_push, all_push}
+use Rattle.tva_base.specs.Plan.{links_of}
 use Rattle.tva_config_entries.specs.declared.faults.ConfigTable.TheVariants as table
 use Rattle.tva_config_entries.specs.declared.faults.ConfigRule.TheVariants as rule
 use Rattle.tva_config_entries.specs.declared.place.Place.{Place}
 use Rattle.tva_config_entries.specs.declared.entries.RouteEntry.{RouteEntry}
-use Rattle.tva_config.specs.declared.joined.OwnedRoute.{OwnedRoute}
-use Rattle.tva_config_entries.specs.Faults.{at, fault_at, unless, found}
-use Rattle.tva_config.specs.Links.{joins, link_between}
-use Rattle.tva_plan.specs.Wiring.{picked, limited_from, outgoing_of}
-use Rattle.tva_config.specs.Routes.{router_named, is_for, resolved, route_step}
-use Rattle.tva_config.specs.Stages.{link_to, routes_of}
-use Rattle.tva_config_entries.proofs.Ranges.{IsRouteEntry}
-use Rattle.tva_config_entries.proofs.Turns.{first_gave, unless_gave, found_gave, in_turn_keeps_of, distinct_push, all_push}
 use Rattle.tva_config.proofs.StepsKeep.{not_in, any_of_map}
 
 pub contains_cons : {A : Type 0} (x y : A) (xs : List A) → Contains xs x → Contains (y ∷ xs) x

@@ -1,9 +1,6 @@
 -- What an answer by cases says where a step gave a value or a fault.
-use Rattle.std.proofs.Common.{◌≡◌, Result, Ok, Err, IsErrAnd, ap, sym, subst, ◌∙◌}
-use Rattle.tva_config_entries.specs.declared.faults.ConfigFault.{ConfigFault}
-use Rattle.tva_config_entries.specs.declared.faults.ConfigError.{ConfigError}
+use Rattle.tva_config_entries.proofs.Common.{◌≡◌, Result, Ok, Err, IsErrAnd, ap, sym, subst, ◌∙◌, ConfigFault, ConfigError, Read, ◌>>=◌, AnswersBy}
 use Rattle.tva_config_entries.specs.declared.faults.ConfigError.TheVariants as error
-use Rattle.tva_config_entries.specs.Faults.{Read, ◌>>=◌, AnswersBy}
 
 -- the answer that `?` makes of a fault
 pub fault_told : {A B : Type 0} (seen : B → A) (read : Read A) (answer : Result B ConfigError) (fault : ConfigFault)

@@ -1,5 +1,5 @@
 -- The number that a few bytes make.
-use Rattle.std.proofs.Common.{◌<◌, ℕ, ◌^◌, zero, suc, arith}
+use Rattle.tva_config_entries.proofs.Common.{◌<◌, ℕ, ◌^◌, zero, suc, arith}
 
 -- a number of at most five bytes is below 2^40
 pub five_bytes : (i n : ℕ) → i < 6 → n < 256 ^ i → n < 2 ^ 40

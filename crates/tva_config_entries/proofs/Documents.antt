@@ -1,10 +1,7 @@
 -- The table of a text, where it has one.
-use Rattle.std.proofs.Common.{◌≡◌, ℕ, List, Bool, true, false, cond, refl, ap, ◌∙◌, None, Some}
-use Rattle.std.specs.Str.{IsUtf8, is_utf8}
+use Rattle.tva_config_entries.proofs.Common.{◌≡◌, ℕ, List, Bool, true, false, cond, refl, ap, ◌∙◌, None, Some, IsUtf8, is_utf8, Members, document_of}
 use Rattle.std.proofs.lemmas.Str.{is_utf8-from_IsUtf8, IsUtf8-from_is_utf8}
-use Rattle.toml.specs.Data.{Members}
 use Rattle.toml.specs.Parse.{parse_document}
-use Rattle.tva_config_entries.specs.Reading.{document_of}
 
 -- a text that is parsed
 pub document_parsed : (text : List ℕ) (ms : Members) → IsUtf8 text → parse_document text ≡ Some ms → document_of text ≡ Some ms

@@ -1,30 +1,11 @@
 -- What the entries of the tables keep that were read.
-use Rattle.std.proofs.Common.{◌≡◌, ◌≤◌, ◌<◌, ◌^◌, ◌&&◌, nat_le, Bool, true, false, cond, eqb, ℕ, List, [], Some, None, Ok, All, codes, length, refl, subst, arith}
-use Rattle.std.proofs.lemmas.Bool.{and_parts, leb-true}
-use Rattle.std.proofs.lemmas.List.Elements.{All-nil}
-use Rattle.toml.specs.Data.{Members}
-use Rattle.tva_base.specs.declared.addresses.Address.{Address}
-use Rattle.tva_base.specs.declared.limits.LinkLimits.{LinkLimits}
-use Rattle.tva_base.specs.Plan.{AreClassLimits, AreLinkLimits, IsPrefix}
-use Rattle.tva_base.specs.Addresses.{address_of, prefix_of}
-use Rattle.tva_base.specs.Versions.{AreRights, IsVersion, seconds_max, units_max}
+use Rattle.tva_config_entries.proofs.Common.{◌≡◌, ◌≤◌, ◌<◌, ◌^◌, ◌&&◌, nat_le, Bool, true, false, cond, eqb, ℕ, List, [], Some, None, Ok, All, codes, length, refl, subst, arith, and_parts, leb-true, All-nil, Members, Address, LinkLimits, AreClassLimits, AreLinkLimits, IsPrefix, address_of, prefix_of, AreRights, IsVersion, seconds_max, units_max, Place, RouterEntry, HostEntry, LinkEntry, RouteEntry, Read, only_listed, required, optional, router_keys, router_of, host_keys, policy_plan_of, host_of, link_keys, row, class_limits, behind_a_tag, limits_of, link_of, route_keys, route_of, table_entries, entry_step, IsName, IsPolicyPlan}
 use Rattle.tva_base.specs.declared.packet.Rights.{Rights}
 use Rattle.tva_base.specs.declared.plan.PolicyKind.TheVariants as policy
 use Rattle.tva_base.specs.declared.plan.PolicyPlan.{PolicyPlan}
-use Rattle.tva_config_entries.specs.declared.place.Place.{Place}
 use Rattle.tva_config_entries.specs.declared.faults.ConfigTable as tables
-use Rattle.tva_config_entries.specs.declared.entries.RouterEntry.{RouterEntry}
-use Rattle.tva_config_entries.specs.declared.entries.HostEntry.{HostEntry}
-use Rattle.tva_config_entries.specs.declared.entries.LinkEntry.{LinkEntry}
-use Rattle.tva_config_entries.specs.declared.entries.RouteEntry.{RouteEntry}
-use Rattle.tva_config_entries.specs.Faults.{Read}
-use Rattle.tva_config_entries.specs.Keys.{only_listed, required, optional}
 use Rattle.tva_config_entries.specs.Values as value
-use Rattle.tva_config_entries.specs.Entries.{router_keys, router_of, host_keys, policy_plan_of, host_of, link_keys, row, class_limits, behind_a_tag, limits_of, link_of, route_keys, route_of}
-use Rattle.tva_config_entries.specs.Tables.{table_entries}
-use Rattle.tva_config_entries.specs.Stages.{entry_step}
 use Rattle.tva_config_entries.proofs.Ranges.{IsRouterEntry, IsHostEntry, IsLinkEntry, IsRouteEntry}
-use Rattle.tva_plan.specs.Valid.{IsName, IsPolicyPlan}
 use Rattle.tva_config_entries.proofs.KindsValid.{IsWithin, required_valid, optional_valid, number_valid, name_valid, prefix_kind_valid, nonce_valid, few_valid}
 use Rattle.tva_config_entries.proofs.Turns.{when_gave, gave_one, in_turn_keeps, all_push}
 

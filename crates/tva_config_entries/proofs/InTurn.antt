@@ -1,8 +1,5 @@
 -- Going over a list step by step.
-use Rattle.std.proofs.Common.{◌≡◌, ◌∙◌, ◌<◌, ◌+◌, ℕ, List, [], ◌∷◌, ◌++◌, length, get_or, drop, Ok, Err, sym, ap}
-use Rattle.std.proofs.lemmas.List.{at_drop_more, length_push}
-use Rattle.tva_config_entries.specs.declared.faults.ConfigFault.{ConfigFault}
-use Rattle.tva_config_entries.specs.Faults.{Read, ◌>>=◌, in_turn}
+use Rattle.tva_config_entries.proofs.Common.{◌≡◌, ◌∙◌, ◌<◌, ◌+◌, ℕ, List, [], ◌∷◌, ◌++◌, length, get_or, drop, Ok, Err, sym, ap, at_drop_more, length_push, ConfigFault, Read, ◌>>=◌, in_turn}
 
 -- the steps from here on give what all of them give
 abbrev pub Continues : {A B : Type 0} → (List B → A → Read B) → List B → List A → List A → Type 0

@@ -1,11 +1,5 @@
 -- Going over the items of an array.
-use Rattle.std.proofs.Common.{◌≡◌, ◌∙◌, ◌<◌, ◌≤◌, ◌+◌, ℕ, List, [], ◌∷◌, ◌++◌, length, get_or, drop, Option, Some, None, sym, ap, subst, append_assoc, append-nil}
-use Rattle.std.specs.Option.{option_map}
-use Rattle.std.proofs.lemmas.List.{at_drop_more, at_drop_all}
-use Rattle.toml.specs.Data.{Data}
-use Rattle.toml.specs.declared.value.Value.{Value}
-use Rattle.toml.specs.View.{view, items_view}
-use Rattle.tva_config_entries.specs.Values.{and_first, items}
+use Rattle.tva_config_entries.proofs.Common.{◌≡◌, ◌∙◌, ◌<◌, ◌≤◌, ◌+◌, ℕ, List, [], ◌∷◌, ◌++◌, length, get_or, drop, Option, Some, None, sym, ap, subst, append_assoc, append-nil, option_map, at_drop_more, at_drop_all, Data, Value, view, items_view, and_first, items}
 
 -- so far these were found, and the rest of the array gives what is missing
 abbrev pub Collects : {A : Type 0} → (Data → Option A) → List A → List Value → ℕ → Type 0

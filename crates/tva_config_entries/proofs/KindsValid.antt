@@ -1,25 +1,12 @@
 -- What a value that was read keeps: its range, its letters.
-use Rattle.std.proofs.Common.{◌≡◌, ◌≤◌, ◌<◌, ◌^◌, ◌*◌, ◌&&◌, nat_le, ℕ, ℤ, pos, negsuc, Bool, true, false, cond, List, [], ◌∷◌, length, Result, Ok, Err, Option, Some, None, IfSome, option_and_then, All, refl, sym, ◌∙◌, subst, arith}
-use Rattle.std.specs.Option.{option_map}
+use Rattle.tva_config_entries.proofs.Common.{◌≡◌, ◌≤◌, ◌<◌, ◌^◌, ◌*◌, ◌&&◌, nat_le, ℕ, ℤ, pos, negsuc, Bool, true, false, cond, List, [], ◌∷◌, length, Result, Ok, Err, Option, Some, None, IfSome, option_and_then, All, refl, sym, ◌∙◌, subst, arith, option_map, list_all, and_parts, leb-true, All-nil, Data, Items, no_items, item, Members, as_integer, as_str, as_array, get_member, prefix_of, IsPrefix, ConfigFault, Place, Read, fault_at, found, keyed, required, optional, within, number, written, name_of, number_of_bytes, hex_nonce_of, and_first, items, short_array, few_items, IsName}
 use Rattle.std.specs.Result.{result_ok}
-use Rattle.std.specs.List.{list_all}
-use Rattle.std.proofs.lemmas.Bool.{and_parts, leb-true}
-use Rattle.std.proofs.lemmas.List.Elements.{All-nil}
 use Rattle.hex.specs.Hex.{IsBytes, decode_sized}
 use Rattle.hex.specs.declared.error.FromHexError.{FromHexError}
 use Rattle.hex.proofs.HexLemmas.{decode_of-ok, decode_sized-ok, decode_sized-twice}
-use Rattle.toml.specs.Data.{Data, Items, no_items, item, Members, as_integer, as_str, as_array, get_member}
 use Rattle.tva_base.specs.declared.addresses.Prefix.{Prefix}
-use Rattle.tva_base.specs.Addresses.{prefix_of}
-use Rattle.tva_base.specs.Plan.{IsPrefix}
-use Rattle.tva_config_entries.specs.declared.faults.ConfigFault.{ConfigFault}
 use Rattle.tva_config_entries.specs.declared.faults.ConfigRule.TheVariants as rule
-use Rattle.tva_config_entries.specs.declared.place.Place.{Place}
-use Rattle.tva_config_entries.specs.Faults.{Read, fault_at, found}
-use Rattle.tva_config_entries.specs.Keys.{keyed, required, optional}
-use Rattle.tva_config_entries.specs.Values.{within, number, written, name_of, number_of_bytes, hex_nonce_of, and_first, items, short_array, few_items}
 use Rattle.tva_plan.specs.Names.{is_name_byte}
-use Rattle.tva_plan.specs.Valid.{IsName}
 use Rattle.tva_config_entries.proofs.Prefixes.{prefix_valid}
 use Rattle.tva_config_entries.proofs.Turns.{all_cons}
 

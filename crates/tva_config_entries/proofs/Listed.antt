@@ -1,12 +1,7 @@
 -- The names of a table's members are the keys of its map.
-use Rattle.std.proofs.Common.{◌≡◌, ◌&&◌, ◌||◌, List, [], ◌∷◌, ℕ, refl, ap, map, String, string_bytes, Bor}
+use Rattle.tva_config_entries.proofs.Common.{◌≡◌, ◌&&◌, ◌||◌, List, [], ◌∷◌, ℕ, refl, ap, map, String, string_bytes, Bor, list_all, list_any, bytes_eq, Value, members_view, table_view, is_listed, are_listed}
 use Rattle.std.specs.declared.alloc.Global.{Global}
-use Rattle.std.specs.List.{list_all, list_any}
-use Rattle.std.specs.Str.{bytes_eq}
 use Rattle.std.specs.BTreeMap.{BTreeMap, keys}
-use Rattle.toml.specs.declared.value.Value.{Value}
-use Rattle.toml.specs.View.{members_view, table_view}
-use Rattle.tva_config_entries.specs.Keys.{is_listed, are_listed}
 
 entries_listed : (listed : List (List ℕ)) (es : List (String Global × Value)) → list_all (λ name. is_listed listed (string_bytes name)) (map (λ e. e.0) es) ≡ are_listed listed (members_view es)
 entries_listed listed [] = refl

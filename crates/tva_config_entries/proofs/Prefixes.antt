@@ -1,12 +1,8 @@
 -- A prefix that was read has at most 32 bits, and zeros past them.
-use Rattle.std.proofs.Common.{◌≡◌, ◌≤◌, ℕ, ◌-◌, ◌^◌, ◌/◌, Bool, true, false, ◌&&◌, nat_le, cond, List, Option, Some, None, IfSome, refl}
+use Rattle.tva_config_entries.proofs.Common.{◌≡◌, ◌≤◌, ℕ, ◌-◌, ◌^◌, ◌/◌, Bool, true, false, ◌&&◌, nat_le, cond, List, Option, Some, None, IfSome, refl, and_parts, leb-true, Address, parted, address_of, kept, prefix_of, IsPrefix}
 use Rattle.std.proofs.Math.Nat.{mul-mod_left}
-use Rattle.std.proofs.lemmas.Bool.{and_parts, leb-true}
-use Rattle.tva_base.specs.declared.addresses.Address.{Address}
 use Rattle.tva_base.specs.Decimal.{is_decimal, number_in, decimal_of, has_leading_zero, plain_decimal_of}
-use Rattle.tva_base.specs.Addresses.{parted, address_of, kept, prefix_of}
 use Rattle.tva_base.specs.Options.{◌>>=◌}
-use Rattle.tva_base.specs.Plan.{IsPrefix}
 
 within_at : (b : Bool) (n max : ℕ) → (b ≡ true → n ≤ max) → IfSome (cond b (Some n) None) (λ k. k ≤ max)
 within_at true n max within = within refl

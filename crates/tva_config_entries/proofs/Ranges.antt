@@ -1,14 +1,7 @@
 -- What every entry keeps that is read.
+use Rattle.tva_config_entries.proofs.Common.{AreLinkLimits, IsPrefix, AreRights, IsVersion, RouterEntry, HostEntry, LinkEntry, RouteEntry, ConfigEntries, IsName, IsPolicyPlan}
 use Rattle.std.specs.Prelude.{◌<◌, ◌≤◌, ◌^◌, ◌+◌, length}
 use Rattle.std.specs.List.{All}
-use Rattle.tva_base.specs.Plan.{AreLinkLimits, IsPrefix}
-use Rattle.tva_base.specs.Versions.{AreRights, IsVersion}
-use Rattle.tva_config_entries.specs.declared.entries.RouterEntry.{RouterEntry}
-use Rattle.tva_config_entries.specs.declared.entries.HostEntry.{HostEntry}
-use Rattle.tva_config_entries.specs.declared.entries.LinkEntry.{LinkEntry}
-use Rattle.tva_config_entries.specs.declared.entries.RouteEntry.{RouteEntry}
-use Rattle.tva_config_entries.specs.Tables.{ConfigEntries}
-use Rattle.tva_plan.specs.Valid.{IsName, IsPolicyPlan}
 
 -- the ranges of an entry's name and numbers
 pub record IsRouterEntry (r : RouterEntry) : Type 0 where

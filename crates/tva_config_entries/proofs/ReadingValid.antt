@@ -1,17 +1,8 @@
 -- What is read of a text as its entries keeps the ranges of its keys.
-use Rattle.std.proofs.Common.{◌≡◌, ◌≤◌, ℕ, ◌+◌, nat_lt, List, [], length, Ok, All, codes, refl, ◌∙◌, subst, arith}
-use Rattle.std.proofs.lemmas.Bool.{ltb-false}
-use Rattle.toml.specs.Data.{Members}
-use Rattle.tva_base.specs.Versions.{IsVersion}
+use Rattle.tva_config_entries.proofs.Common.{◌≡◌, ◌≤◌, ℕ, ◌+◌, nat_lt, List, [], length, Ok, All, codes, refl, ◌∙◌, subst, arith, ltb-false, Members, IsVersion, at, top, fault_at, found, unless, only_listed, required, optional, router_of, host_of, link_of, route_of, restart_of, reroute_of, top_keys, table_entries, ConfigEntries, Top, top_of, tables_of, counts_of, entry_step, all_entries_of, members_read, document_of, entries_read}
 use Rattle.tva_config_entries.specs.declared.faults.ConfigTable.TheVariants as table
 use Rattle.tva_config_entries.specs.declared.faults.ConfigRule.TheVariants as rule
-use Rattle.tva_config_entries.specs.Faults.{at, top, fault_at, found, unless}
-use Rattle.tva_config_entries.specs.Keys.{only_listed, required, optional}
 use Rattle.tva_config_entries.specs.Values as value
-use Rattle.tva_config_entries.specs.Entries.{router_of, host_of, link_of, route_of, restart_of, reroute_of}
-use Rattle.tva_config_entries.specs.Tables.{top_keys, table_entries, ConfigEntries}
-use Rattle.tva_config_entries.specs.Stages.{Top, top_of, tables_of, counts_of, entry_step, all_entries_of}
-use Rattle.tva_config_entries.specs.Reading.{members_read, document_of, entries_read}
 use Rattle.tva_config_entries.proofs.Ranges.{IsRouterEntry, IsHostEntry, IsLinkEntry, IsRouteEntry, AreEntries}
 use Rattle.tva_config_entries.proofs.EntriesValid.{number_needed, number_or, router_valid, host_valid, link_valid, route_valid, entries_valid}
 use Rattle.tva_config_entries.proofs.Staged.{members_staged}

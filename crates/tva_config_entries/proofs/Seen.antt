@@ -1,16 +1,7 @@
 -- The top level and its tables, as the code and as the definitions see them.
-use Rattle.std.proofs.Common.{◌≡◌, ◌+◌, List, length, map, Result, Vec, Bor, BTreeMap, String, Global, subst}
-use Rattle.toml.specs.Data.{Members}
-use Rattle.toml.specs.View.{table_view}
-use Rattle.toml.specs.declared.value.Value.{Value}
-use Rattle.tva_config_entries.specs.declared.faults.ConfigError.{ConfigError}
+use Rattle.tva_config_entries.proofs.Common.{◌≡◌, ◌+◌, List, length, map, Result, Vec, Bor, BTreeMap, String, Global, subst, Members, table_view, Value, ConfigError, Place, Read, AnswersBy, length-map, table_entries, counts_of, seen_top}
 use Rattle.tva_config_entries.specs.declared.faults.ConfigTable as tables
-use Rattle.tva_config_entries.specs.declared.place.Place.{Place}
-use Rattle.tva_config_entries.specs.Faults.{Read, AnswersBy}
-use Rattle.std.proofs.lemmas.List.{length-map}
 use Rattle.tva_config_entries.specs.declared.top.TopTable.{TopTable}
-use Rattle.tva_config_entries.specs.Tables.{table_entries}
-use Rattle.tva_config_entries.specs.Stages.{counts_of, seen_top}
 
 pub counts_seen : (t : TopTable) → counts_of (length t.routers.items + length t.hosts.items) (length t.links.items) (length t.routes.items) (length t.restarts.items) (length t.reroutes.items)
     ≡ counts_of (length (seen_top t).routers + length (seen_top t).hosts) (length (seen_top t).links) (length (seen_top t).routes)

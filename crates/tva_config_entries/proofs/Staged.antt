@@ -1,13 +1,7 @@
 -- The steps of reading, cut as the functions of the code take them, give what they give in one.
-use Rattle.std.proofs.Common.{◌≡◌, ◌+◌, length, [], Ok, Err, codes, refl}
-use Rattle.toml.specs.Data.{Members}
+use Rattle.tva_config_entries.proofs.Common.{◌≡◌, ◌+◌, length, [], Ok, Err, codes, refl, Members, Read, ◌>>=◌, top, only_listed, required, optional, top_keys, at_most, top_of, tables_of, counts_of, all_entries_of, members_read}
 use Rattle.tva_config_entries.specs.declared.faults.ConfigTable.TheVariants as table
-use Rattle.tva_config_entries.specs.Faults.{Read, ◌>>=◌, top}
-use Rattle.tva_config_entries.specs.Keys.{only_listed, required, optional}
 use Rattle.tva_config_entries.specs.Values as value
-use Rattle.tva_config_entries.specs.Tables.{top_keys, at_most}
-use Rattle.tva_config_entries.specs.Stages.{top_of, tables_of, counts_of, all_entries_of}
-use Rattle.tva_config_entries.specs.Reading.{members_read}
 
 -- a step after two others, where the second and it are one
 pub deeper : {A B C : Type 0} (r : Read A) (f : A → Read B) (g : B → Read C) (h : A → Read C)

@@ -1,9 +1,5 @@
 -- What steps in turn keep and leave.
-use Rattle.std.proofs.Common.{◌≡◌, ◌<◌, ◌+◌, ℕ, zero, suc, Bool, true, false, List, [], ◌∷◌, ◌++◌, length, get_or, map, Ok, Err, Option, Some, None, All, Contains, inl, inr, refl, ap, sym, ◌∙◌, subst, append_assoc, append-nil, arith, length-append}
-use Rattle.std.proofs.lemmas.List.Elements.{Contains-append_cases, All-append, All-nil}
-use Rattle.tva_base.specs.Plan.{AreDistinct}
-use Rattle.tva_config_entries.specs.declared.faults.ConfigFault.{ConfigFault}
-use Rattle.tva_config_entries.specs.Faults.{Read, ◌>>=◌, unless, found, in_turn}
+use Rattle.tva_config_entries.proofs.Common.{◌≡◌, ◌<◌, ◌+◌, ℕ, zero, suc, Bool, true, false, List, [], ◌∷◌, ◌++◌, length, get_or, map, Ok, Err, Option, Some, None, All, Contains, inl, inr, refl, ap, sym, ◌∙◌, subst, append_assoc, append-nil, arith, length-append, Contains-append_cases, All-append, All-nil, AreDistinct, ConfigFault, Read, ◌>>=◌, unless, found, in_turn}
 
 -- the first of two steps that gave a value
 pub first_gave : {A B : Type 0} (r : Read A) (next : A → Read B) (y : B) → (r >>= next) ≡ Ok y → (x : A) × (r ≡ Ok x) × (next x ≡ Ok y)

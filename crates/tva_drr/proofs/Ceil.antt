@@ -1,8 +1,5 @@
 -- Quotients that are rounded up.
-use Rattle.std.proofs.Common.{◌≡◌, ℕ, ◌+◌, ◌-◌, ◌*◌, ◌<◌, ◌≤◌, inl, inr, ap, arith}
-use Rattle.std.specs.Int.{div_ceil}
-use Rattle.std.proofs.Math.Nat.{mul-le-mul_right, add-mul}
-use Rattle.std.proofs.lemmas.Bool.{cases_lt}
+use Rattle.tva_drr.proofs.Common.{◌≡◌, ℕ, ◌+◌, ◌-◌, ◌*◌, ◌<◌, ◌≤◌, inl, inr, ap, arith, div_ceil, mul-le-mul_right, add-mul, cases_lt}
 use Rattle.std.proofs.lemmas.Grind.{div_ceil_times}
 
 mul_by : (a b q : ℕ) → a ≡ b → a * q ≡ b * q

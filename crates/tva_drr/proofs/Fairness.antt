@@ -1,16 +1,5 @@
 -- Two queues that are never empty send about as much as each other.
-use Rattle.std.proofs.Common.{◌≡◌, ℕ, suc, ◌+◌, ◌-◌, ◌*◌, ◌<◌, ◌≤◌, Option, Some, None, true, false, cond, eqb, List, [], ◌∷◌, ◌++◌, refl, sym, ap, ◌∙◌, subst, inl, inr, arith}
-use Rattle.std.specs.List.{AllByRecursion}
-use Rattle.std.proofs.Math.Nat.{mul-le-mul_right, mul_comm}
-use Rattle.std.proofs.lemmas.Bool.Decides.{leb_tells}
-use Rattle.tva_base.specs.declared.limits.DrrLimits.{DrrLimits}
-use Rattle.tva_drr.specs.Queues.{Queue, Fair, fair, has_key, all_bytes}
-use Rattle.tva_drr.specs.Offer.{put, lacks_queue, lacks_room}
-use Rattle.tva_drr.specs.Take.{taken}
-use Rattle.tva_drr.specs.Fair.{AreFair, IsFair}
-use Rattle.tva_drr.specs.Service.{Step, Offer, Take, is_front, head_bytes, AreOffers, bytes_from, AlwaysWaits}
-use Rattle.tva_drr.specs.Turns.{Turn, turn, deficit_of}
-use Rattle.tva_drr.specs.Ahead.{turns_of}
+use Rattle.tva_drr.proofs.Common.{◌≡◌, ℕ, suc, ◌+◌, ◌-◌, ◌*◌, ◌<◌, ◌≤◌, Option, Some, None, true, false, cond, eqb, List, [], ◌∷◌, ◌++◌, refl, sym, ap, ◌∙◌, subst, inl, inr, arith, AllByRecursion, mul-le-mul_right, mul_comm, leb_tells, DrrLimits, Queue, Fair, fair, has_key, all_bytes, put, lacks_queue, lacks_room, taken, AreFair, IsFair, Step, Offer, Take, is_front, head_bytes, AreOffers, bytes_from, AlwaysWaits, Turn, turn, deficit_of, turns_of}
 use Rattle.tva_drr.proofs.Lists.{by_key}
 use Rattle.tva_drr.proofs.Keeps.{keeps-offer}
 use Rattle.tva_drr.proofs.Falling.{by_test, has, refill, settle, join, Stand, has-push, has-push-own, has-refill, deficit-push, deficit-push-own, place-join, has-turns, turns-put, turns-taken, later, first_covered, stand}

@@ -1,21 +1,5 @@
 -- The measure of the bytes that may still go falls at each take by what is taken.
-use Rattle.std.proofs.Common.{◌≡◌, ℕ, suc, ◌+◌, ◌-◌, ◌*◌, ◌<◌, ◌≤◌, Bool, true, false, cond, eqb, leb, Option, Some, None, List, [], ◌∷◌, ◌++◌, length, refl, sym, ap, ◌∙◌, subst, inl, inr, mul_assoc, arith}
-use Rattle.std.specs.Int.{div_ceil}
-use Rattle.std.specs.Bool.{MatchBool}
-use Rattle.std.specs.List.{AllByRecursion}
-use Rattle.std.specs.Option.{option_map}
-use Rattle.std.proofs.Math.Nat.{mul-le-mul_right, add-mul, mul-add, mul_comm}
-use Rattle.std.proofs.lemmas.Bool.Decides.{leb_tells}
-use Rattle.std.proofs.lemmas.List.{length-map, map_push}
-use Rattle.tva_base.specs.declared.limits.DrrLimits.{DrrLimits}
-use Rattle.tva_base.specs.Plan.{AreDrrLimits}
-use Rattle.tva_drr.specs.Queues.{Queue, queue, fair, has_key, items_of, first}
-use Rattle.tva_drr.specs.Offer.{put, lacks_queue, lacks_room, offer_leaves}
-use Rattle.tva_drr.specs.Take.{refilled, settled, popped, front_settled, taken}
-use Rattle.tva_drr.specs.Fair.{AreBehind, AreFair}
-use Rattle.tva_drr.specs.Service.{is_front, first_bytes, head_bytes, most_until}
-use Rattle.tva_drr.specs.Turns.{Turn, turn, deficit_of, other_deficits, place_of, quanta_before, ahead}
-use Rattle.tva_drr.specs.Ahead.{turns_of, bytes_ahead, IsLeft}
+use Rattle.tva_drr.proofs.Common.{◌≡◌, ℕ, suc, ◌+◌, ◌-◌, ◌*◌, ◌<◌, ◌≤◌, Bool, true, false, cond, eqb, leb, Option, Some, None, List, [], ◌∷◌, ◌++◌, length, refl, sym, ap, ◌∙◌, subst, inl, inr, mul_assoc, arith, div_ceil, MatchBool, AllByRecursion, option_map, mul-le-mul_right, add-mul, mul-add, mul_comm, leb_tells, length-map, map_push, DrrLimits, AreDrrLimits, Queue, queue, fair, has_key, items_of, first, put, lacks_queue, lacks_room, offer_leaves, refilled, settled, popped, front_settled, taken, AreBehind, AreFair, is_front, first_bytes, head_bytes, most_until, Turn, turn, deficit_of, other_deficits, place_of, quanta_before, ahead, turns_of, bytes_ahead, IsLeft}
 use Rattle.tva_drr.proofs.Lists.{by_key}
 use Rattle.tva_drr.proofs.OrderLaws.{items_of-settled-own}
 use Rattle.tva_drr.proofs.Ceil.{ceil_le, ceil_some, ceil_less}

@@ -1,16 +1,6 @@
 -- What is true of fair queues stays true after an offer and after a take.
-use Rattle.std.proofs.Common.{◌≡◌, ℕ, ◌+◌, ◌-◌, ◌<◌, ◌≤◌, ◌^◌, suc, Option, Some, None, false, cond, List, [], ◌∷◌, ◌++◌, length, refl, sym, subst, inl, inr, arith, length-append}
-use Rattle.std.proofs.lemmas.Bool.Decides.{nat_tests, leb_tells}
-use Rattle.std.proofs.lemmas.List.Sums.{sum_by-cons, sum_by_push}
-use Rattle.std.specs.List.{All, AllByRecursion}
-use Rattle.std.specs.Option.{option_map}
-use Rattle.std.proofs.lemmas.List.Elements.{All-from_recursion}
-use Rattle.tva_base.specs.declared.limits.DrrLimits.{DrrLimits}
-use Rattle.tva_drr.specs.Queues.{Queue, queue, fair, has_key, items_of, first, head, queue_bytes, all_bytes, bytes_in}
-use Rattle.tva_drr.specs.Offer.{put, lacks_queue, lacks_room}
-use Rattle.tva_drr.specs.Take.{refilled, settled, front_popped, front_settled, popped, taken}
-use Rattle.tva_base.specs.Plan.{AreDrrLimits}
-use Rattle.tva_drr.specs.Fair.{AreMeasured, IsQueue, AreQueues, AreBehind, Covers, HasTurn, AreFair, IsFair}
+use Rattle.tva_drr.proofs.Common.{◌≡◌, ℕ, ◌+◌, ◌-◌, ◌<◌, ◌≤◌, ◌^◌, suc, Option, Some, None, false, cond, List, [], ◌∷◌, ◌++◌, length, refl, sym, subst, inl, inr, arith, length-append, nat_tests, leb_tells, sum_by-cons, sum_by_push, All, AllByRecursion, option_map, All-from_recursion, DrrLimits, Queue, queue, fair, has_key, items_of, first, head, queue_bytes, all_bytes, bytes_in, put, lacks_queue, lacks_room, refilled, settled, front_settled, popped, taken, AreDrrLimits, AreMeasured, IsQueue, AreQueues, AreBehind, Covers, HasTurn, AreFair, IsFair}
+use Rattle.tva_drr.specs.Take.{front_popped}
 use Rattle.tva_drr.proofs.Lists.{by_key, has_key-push, has_key-put, length-put, all_bytes-put}
 
 module _ {T : Type 0} (measure : T → ℕ) (l : DrrLimits) where

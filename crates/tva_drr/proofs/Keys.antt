@@ -1,9 +1,5 @@
 -- Where a key's queue stands, by the keys alone.
-use Rattle.std.proofs.Common.{◌≡◌, ℕ, suc, true, false, cond, List, [], ◌∷◌, take, map, Option, Some, None, refl, ap, ◌∙◌, arith}
-use Rattle.std.specs.Option.{option_map}
-use Rattle.tva_index.specs.KeyRing.{place_in}
-use Rattle.tva_drr.specs.Queues.{Queue, has_key}
-use Rattle.tva_drr.specs.Places.{IsPlace}
+use Rattle.tva_drr.proofs.Common.{◌≡◌, ℕ, suc, true, false, cond, List, [], ◌∷◌, take, map, Option, Some, None, refl, ap, ◌∙◌, arith, option_map, place_in, Queue, has_key, IsPlace}
 use Rattle.tva_drr.proofs.Lists.{by_key}
 
 module _ {T : Type 0} where

@@ -1,12 +1,5 @@
 -- The first queue of a key, by its place.
-use Rattle.std.proofs.Common.{◌≡◌, ℕ, ◌+◌, ◌<◌, Bool, true, false, cond, eqb, List, [], ◌∷◌, ◌++◌, length, not, is_none, ◌&&◌, ◌||◌, leb, ltb, take, set, get_or, Option, Some, None, refl, sym, ap, ◌∙◌, subst, inl, inr, zero, suc, arith, ◌==◌}
-use Rattle.std.proofs.lemmas.Bool.Decides.{nat_tests, eqb_tells}
-use Rattle.std.proofs.lemmas.List.Sums.{sum_by-cons, sum_by_push}
-use Rattle.tva_base.specs.declared.limits.DrrLimits.{DrrLimits}
-use Rattle.tva_drr.specs.declared.offered.Offered.TheVariants.{Queued, QueueFull}
-use Rattle.tva_drr.specs.Queues.{Queue, queue, Fair, fair, has_key, items_of, queue_bytes, all_bytes, bytes_in}
-use Rattle.tva_drr.specs.Offer.{put, lacks_queue, lacks_room, offer_answer, offer_leaves}
-use Rattle.tva_drr.specs.Places.{IsPlace}
+use Rattle.tva_drr.proofs.Common.{◌≡◌, ℕ, ◌+◌, ◌<◌, Bool, true, false, cond, eqb, List, [], ◌∷◌, ◌++◌, length, not, is_none, ◌&&◌, ◌||◌, leb, ltb, take, set, get_or, Option, Some, None, refl, sym, ap, ◌∙◌, subst, inl, inr, zero, suc, arith, ◌==◌, nat_tests, eqb_tells, sum_by-cons, sum_by_push, DrrLimits, Queued, QueueFull, Queue, queue, Fair, fair, has_key, items_of, queue_bytes, all_bytes, bytes_in, put, lacks_queue, lacks_room, offer_answer, offer_leaves, IsPlace}
 
 -- by whether two keys are one
 pub by_key : (a b : ℕ) (P : Bool → Type 0) → (a ≡ b → P true) → ((a ≡ b → ⊥) → P false) → P (eqb a b)

@@ -1,12 +1,5 @@
 -- Each key's items after an offer and after a take.
-use Rattle.std.proofs.Common.{◌≡◌, ◌≢◌, ℕ, ◌-◌, Some, false, cond, List, [], ◌∷◌, ◌++◌, suc, refl, sym, ap, ◌∙◌, subst, inl, inr, arith}
-use Rattle.std.proofs.lemmas.Bool.Decides.{nat_tests, leb_tells}
-use Rattle.tva_base.specs.declared.limits.DrrLimits.{DrrLimits}
-use Rattle.tva_drr.specs.Queues.{Queue, queue, fair, has_key, items_of, first, head}
-use Rattle.tva_drr.specs.Offer.{put}
-use Rattle.tva_drr.specs.Take.{refilled, settled, front_settled, popped, taken}
-use Rattle.tva_drr.specs.Fair.{AreQueues}
-use Rattle.tva_drr.specs.Order.{GoesLast, GoesFirst, IsFront}
+use Rattle.tva_drr.proofs.Common.{◌≡◌, ◌≢◌, ℕ, ◌-◌, Some, false, cond, List, [], ◌∷◌, ◌++◌, suc, refl, sym, ap, ◌∙◌, subst, inl, inr, arith, nat_tests, leb_tells, DrrLimits, Queue, queue, fair, has_key, items_of, first, head, put, refilled, settled, front_settled, popped, taken, AreQueues, GoesLast, GoesFirst, IsFront}
 use Rattle.tva_drr.proofs.Lists.{by_key, items_of_none}
 
 module _ {T : Type 0} where

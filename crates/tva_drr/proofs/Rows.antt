@@ -1,16 +1,6 @@
 -- Queues as turns over rings of items.
-use Rattle.std.proofs.Common.{◌≡◌, ℕ, Bool, Option, is_none, ◌&&◌, leb, cond, ◌-◌, ◌<◌, ◌≤◌, List, [], ◌∷◌, ◌++◌, length, get_or, slice_get, drop, map, Some, None, refl, sym, ap, ◌∙◌, subst, suc, arith}
-use Rattle.std.specs.Option.{option_map, option_map_or}
-use Rattle.std.proofs.lemmas.List.{get_or-map, length-map, map_push}
-use Rattle.tva_base.specs.declared.limits.DrrLimits.{DrrLimits}
-use Rattle.tva_drr.specs.Queues.{Queue, queue, fair, first, head}
-use Rattle.tva_drr.specs.Offer.{lacks_queue}
-use Rattle.tva_drr.specs.Take.{refilled, settled, popped, front_popped, front_settled, taken}
-use Rattle.tva_drr.specs.Fair.{HasTurn}
-use Rattle.tva_drr.specs.Places.{IsPlace}
-use Rattle.tva_drr.specs.declared.served.Served.{Served}
-use Rattle.tva_drr.specs.Sources.{TurnsOver, turns_over, served, turn_keys, turns_refilled, turn_settled, turns_settled, turns_popped, front_next}
-use Rattle.tva_drr.specs.Rows.{RowOf, row, queues_in}
+use Rattle.tva_drr.proofs.Common.{◌≡◌, ℕ, Bool, Option, is_none, ◌&&◌, leb, cond, ◌-◌, ◌<◌, ◌≤◌, List, [], ◌∷◌, ◌++◌, length, get_or, slice_get, drop, map, Some, None, refl, sym, ap, ◌∙◌, subst, suc, arith, option_map, option_map_or, get_or-map, length-map, map_push, DrrLimits, Queue, queue, fair, first, head, lacks_queue, refilled, settled, popped, front_settled, taken, HasTurn, IsPlace, Served, TurnsOver, turns_over, served, turn_keys, turns_refilled, turn_settled, turns_settled, turns_popped, front_next, RowOf, row, queues_in}
+use Rattle.tva_drr.specs.Take.{front_popped}
 use Rattle.tva_drr.proofs.Lists.{lacks_queue_is}
 use Rattle.tva_drr.proofs.Falling.{by_test}
 

@@ -1,11 +1,6 @@
 -- Turns over sources, as they change places.
-use Rattle.std.proofs.Common.{◌≡◌, ℕ, ◌+◌, ◌<◌, List, [], ◌∷◌, ◌++◌, length, get_or, slice_get, take, drop, map, set, Some, sym, ap, ◌∙◌, subst, arith, length-append}
-use Rattle.std.specs.List.{All, AllByRecursion}
+use Rattle.tva_drr.proofs.Common.{◌≡◌, ℕ, ◌+◌, ◌<◌, List, [], ◌∷◌, ◌++◌, length, get_or, slice_get, take, drop, map, set, Some, sym, ap, ◌∙◌, subst, arith, length-append, All, AllByRecursion, map_push, length-set, recursion_from_All, All-from_recursion, All-head, All-tail, All-cons, All-push, All-set, All-pop, Served, served, turn_keys, turns_refilled}
 use Rattle.std.proofs.Math.Seq.{map-set_same}
-use Rattle.std.proofs.lemmas.List.{map_push, length-set}
-use Rattle.std.proofs.lemmas.List.Elements.{recursion_from_All, All-from_recursion, All-head, All-tail, All-cons, All-push, All-set, All-pop}
-use Rattle.tva_drr.specs.declared.served.Served.{Served}
-use Rattle.tva_drr.specs.Sources.{served, turn_keys, turns_refilled}
 
 module _ {S : Type 0} where
   -- who comes next

@@ -1,15 +1,6 @@
 -- The bytes that go up to a key's n-th item, whatever is offered.
-use Rattle.std.proofs.Common.{◌≡◌, ℕ, zero, suc, ◌+◌, ◌≤◌, Bool, true, false, cond, eqb, List, [], ◌∷◌, ◌++◌, length, length-append, take, refl, sym, ap, ◌∙◌, subst, Some, arith}
-use Rattle.std.proofs.lemmas.List.{take-append-le}
-use Rattle.std.proofs.lemmas.List.Sums.{sum_by-cons}
-use Rattle.std.specs.Bool.{MatchBool}
-use Rattle.tva_base.specs.declared.limits.DrrLimits.{DrrLimits}
-use Rattle.tva_drr.specs.Queues.{Queue, Fair, fair, has_key, items_of, bytes_in, all_bytes, first, head}
-use Rattle.tva_drr.specs.Offer.{put, lacks_queue, lacks_room, offer_leaves}
-use Rattle.tva_drr.specs.Take.{taken}
-use Rattle.tva_drr.specs.Fair.{AreMeasured, AreQueues, AreFair, IsFair}
-use Rattle.tva_drr.specs.Service.{Step, Offer, Take, first_bytes, head_bytes, AreOffers, bytes_until, most_until}
-use Rattle.tva_drr.specs.Ahead.{bytes_ahead, IsLeft}
+use Rattle.tva_drr.proofs.Common.{◌≡◌, ℕ, zero, suc, ◌+◌, ◌≤◌, Bool, true, false, cond, eqb, List, [], ◌∷◌, ◌++◌, length, length-append, take, refl, sym, ap, ◌∙◌, subst, Some, arith, take-append-le, sum_by-cons, MatchBool, DrrLimits, Queue, Fair, fair, has_key, items_of, bytes_in, all_bytes, first, head, put, lacks_queue, lacks_room, offer_leaves, taken, AreMeasured, AreQueues, AreFair, IsFair, Step, Offer, Take, first_bytes, head_bytes, AreOffers, most_until, bytes_ahead, IsLeft}
+use Rattle.tva_drr.specs.Service.{bytes_until}
 use Rattle.tva_drr.proofs.Lists.{by_key, items_of_none}
 use Rattle.tva_drr.proofs.Keeps.{keeps-offer, keeps-taken}
 use Rattle.tva_drr.proofs.OrderLaws.{goes_last, goes_first}

@@ -12,3 +12,11 @@ pub mod Rows
 pub mod Front
 pub mod Sources
 pub mod Kept
+pub mod Groups
+pub mod GroupsOffer
+pub mod GroupsTake
+pub mod Hier
+pub mod GroupsOrder
+pub mod GroupsAhead
+pub mod GroupsCode
+pub mod GroupsPlaces

@@ -1,18 +1,5 @@
 -- What each answer of a cache says.
-use Rattle.std.proofs.Common.{◌≡◌, ℕ, ◌+◌, ◌*◌, ◌<◌, ◌≤◌, Bool, true, false, not, cond, eqb, ltb, leb, List, [], ◌∷◌, ◌++◌, length, get_or, set, Option, Some, None, refl, sym, ap, ◌∙◌, subst, inl, inr, arith, append-nil}
-use Rattle.std.specs.List.{All}
-use Rattle.std.specs.Option.{MatchOption}
-use Rattle.std.proofs.lemmas.Bool.Decides.{nat_tests}
-use Rattle.tva_base.specs.declared.packet.Flow.{Flow}
-use Rattle.tva_base.specs.declared.packet.Grant.{Grant}
-use Rattle.tva_base.specs.Clock.{router_second}
-use Rattle.tva_flow.specs.declared.kept.Entry.{Entry}
-use Rattle.tva_flow.specs.declared.verdicts.Verdict.{Verdict}
-use Rattle.tva_flow.specs.declared.verdicts.Verdict.TheVariants.{Authorised, Expired, OverN, UnknownNonce, CacheFull, Superseded}
-use Rattle.tva_flow.specs.Charges.{Charge, charge, end_of, run, bytes_of, of_flow, living_count}
-use Rattle.tva_flow.specs.Verdicts.{is_authorised, list_verdict, nonce_verdict}
-use Rattle.tva_flow.specs.Stands.{IsChargeable, cache, entry_of, IsKept, StandsFor}
-use Rattle.tva_flow.specs.Steps.{blocks, counted, living_verdict, held_verdict, opening_verdict, renewed, opened, Admits}
+use Rattle.tva_flow.proofs.Common.{◌≡◌, ℕ, ◌+◌, ◌*◌, ◌<◌, ◌≤◌, Bool, true, false, not, cond, eqb, ltb, leb, List, [], ◌∷◌, ◌++◌, length, get_or, set, Option, Some, None, refl, sym, ap, ◌∙◌, subst, inl, inr, arith, append-nil, All, MatchOption, nat_tests, Flow, Grant, router_second, Entry, Verdict, Authorised, Expired, OverN, UnknownNonce, CacheFull, Superseded, Charge, charge, end_of, run, bytes_of, of_flow, living_count, is_authorised, list_verdict, nonce_verdict, IsChargeable, cache, entry_of, IsKept, StandsFor, blocks, counted, living_verdict, held_verdict, opening_verdict, renewed, opened, Admits}
 use Rattle.tva_flow.proofs.Steps.{holds_now, dead_now, not_living, end_from_dead, holds-new, holds-more}
 use Rattle.tva_flow.proofs.Rising.{rising}
 use Rattle.tva_flow.proofs.Standing.{stands-later, stands-set, stands-push, entry_from_place}

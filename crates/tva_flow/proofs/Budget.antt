@@ -1,21 +1,5 @@
 -- No grant has twice its units.
-use Rattle.std.proofs.Common.{◌≡◌, ℕ, ◌+◌, ◌*◌, ◌/◌, ◌<◌, ◌≤◌, Bool, true, false, not, ◌||◌, cond, List, [], ◌∷◌, ◌++◌, refl, sym, ap, ◌∙◌, subst, inl, inr, ◌⊎◌, zero-add, add-zero, mul_assoc, arith, append_assoc, append-nil}
-use Rattle.std.specs.List.{AllByRecursion}
-use Rattle.std.proofs.Math.Nat.{mul-le-mul_right, mul_comm, add-mul}
-use Rattle.std.proofs.lemmas.Bool.{cases_lt}
-use Rattle.std.proofs.lemmas.Bool.Decides.{nat_tests}
-use Rattle.std.proofs.lemmas.Grind.{div_ceil_times}
-use Rattle.std.proofs.lemmas.List.Sums.{sum_by-cons, sum_by-append, sum_by_push}
-use Rattle.std.proofs.lemmas.List.Elements.{All-head, All-tail, All-filter, All-from_recursion}
-use Rattle.tva_base.specs.declared.packet.Flow.{Flow}
-use Rattle.tva_base.specs.declared.packet.Grant.{Grant}
-use Rattle.tva_base.specs.Credit.{credit_of}
-use Rattle.tva_base.specs.Clock.{router_second}
-use Rattle.tva_flow.specs.declared.kept.Entry.{Entry}
-use Rattle.tva_flow.specs.Charges.{Charge, end_of, is_living, restarts, run, same_flow, same_grant, bytes_under, bytes_of, of_flow, living_count}
-use Rattle.tva_flow.specs.Verdicts.{IsAuthorised}
-use Rattle.tva_flow.specs.Stands.{NoChargeLater, IsNext, AreNext, StandsFor, cache}
-use Rattle.tva_flow.specs.Budget.{IsWithinSeconds, AreTimely, IsWithinBudget}
+use Rattle.tva_flow.proofs.Common.{◌≡◌, ℕ, ◌+◌, ◌*◌, ◌/◌, ◌<◌, ◌≤◌, Bool, true, false, not, ◌||◌, cond, List, [], ◌∷◌, ◌++◌, refl, sym, ap, ◌∙◌, subst, inl, inr, ◌⊎◌, zero-add, add-zero, mul_assoc, arith, append_assoc, append-nil, AllByRecursion, mul-le-mul_right, mul_comm, add-mul, cases_lt, nat_tests, div_ceil_times, sum_by-cons, sum_by-append, sum_by_push, All-head, All-tail, All-filter, All-from_recursion, Flow, Grant, credit_of, router_second, Entry, Charge, end_of, is_living, restarts, run, same_flow, same_grant, bytes_under, bytes_of, of_flow, living_count, IsAuthorised, NoChargeLater, IsNext, AreNext, StandsFor, cache, IsWithinSeconds, AreTimely, IsWithinBudget}
 use Rattle.tva_flow.proofs.Same.{by_bool, same_is, same_grant-self, same_flow-self}
 use Rattle.tva_flow.proofs.Pushes.{credit, credits, of_flow-push, past-push}
 use Rattle.tva_flow.proofs.Steps.{run_new, run_more, end_from_dead}

@@ -1,16 +1,5 @@
 -- The verdict over all charges is the one by the flow's entry.
-use Rattle.std.proofs.Common.{◌≡◌, ℕ, ◌+◌, ◌*◌, ◌<◌, ◌≤◌, Bool, true, false, not, ◌&&◌, ◌||◌, cond, eqb, ltb, leb, List, [], ◌∷◌, Option, None, Some, refl, sym, ap, ◌∙◌, subst, arith, zero-add}
-use Rattle.std.proofs.lemmas.Bool.Decides.{nat_tests}
-use Rattle.tva_base.specs.declared.packet.Flow.{Flow}
-use Rattle.tva_base.specs.declared.packet.Grant.{Grant}
-use Rattle.tva_base.specs.Clock.{router_second}
-use Rattle.tva_flow.specs.declared.verdicts.Verdict.{Verdict}
-use Rattle.tva_flow.specs.declared.verdicts.Verdict.TheVariants.{Authorised, Expired, OverN, UnknownNonce, CacheFull, Superseded}
-use Rattle.tva_flow.specs.declared.kept.Entry.{Entry}
-use Rattle.tva_flow.specs.Charges.{Charge, end_of, run, same_grant, bytes_of, last_or, last_charge, of_flow, lives, holder, used, living_count}
-use Rattle.tva_flow.specs.Verdicts.{supersedes, list_verdict, nonce_rows, nonce_verdict}
-use Rattle.tva_flow.specs.Stands.{Holds}
-use Rattle.tva_flow.specs.Steps.{blocks, counted, living_verdict, held_verdict, opening_verdict}
+use Rattle.tva_flow.proofs.Common.{◌≡◌, ℕ, ◌+◌, ◌*◌, ◌<◌, ◌≤◌, Bool, true, false, not, ◌&&◌, ◌||◌, cond, eqb, ltb, leb, List, [], ◌∷◌, Option, None, Some, refl, sym, ap, ◌∙◌, subst, arith, zero-add, nat_tests, Flow, Grant, router_second, Verdict, Authorised, Expired, OverN, UnknownNonce, CacheFull, Superseded, Entry, Charge, end_of, run, same_grant, bytes_of, last_or, last_charge, of_flow, lives, holder, used, living_count, supersedes, list_verdict, nonce_rows, nonce_verdict, Holds, blocks, counted, living_verdict, held_verdict, opening_verdict}
 use Rattle.tva_flow.proofs.Same.{by_bool, same_is}
 use Rattle.tva_flow.proofs.Steps.{living, by_lt}
 use Rattle.tva_flow.proofs.Rising.{IsRising}

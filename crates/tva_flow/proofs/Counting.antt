@@ -1,13 +1,5 @@
 -- As many flows live as entries do.
-use Rattle.std.proofs.Common.{◌≡◌, ℕ, ◌+◌, ◌<◌, ◌≤◌, Bool, true, false, ◌&&◌, cond, ltb, List, [], ◌∷◌, length, get_or, Option, Some, None, refl, sym, ap, ◌∙◌, subst, inl, inr, zero, suc, arith, count_by}
-use Rattle.std.proofs.lemmas.Bool.Decides.{nat_tests}
-use Rattle.std.proofs.lemmas.List.Sums.{sum_by-cons}
-use Rattle.std.specs.List.{All, AllByRecursion}
-use Rattle.std.proofs.lemmas.List.Elements.{recursion_from_All}
-use Rattle.tva_flow.specs.declared.kept.Entry.{Entry}
-use Rattle.tva_base.specs.declared.packet.Flow.{Flow}
-use Rattle.tva_flow.specs.Charges.{Charge, same_flow, is_living, of_flow, lives, has_flow, flows, living_count}
-use Rattle.tva_flow.specs.Stands.{IsKept, StandsFor, cache, entry_of, AreApart}
+use Rattle.tva_flow.proofs.Common.{◌≡◌, ℕ, ◌+◌, ◌<◌, ◌≤◌, Bool, true, false, ◌&&◌, cond, ltb, List, [], ◌∷◌, length, get_or, Option, Some, None, refl, sym, ap, ◌∙◌, subst, inl, inr, zero, suc, arith, count_by, nat_tests, sum_by-cons, All, AllByRecursion, recursion_from_All, Entry, Flow, Charge, same_flow, is_living, of_flow, lives, has_flow, flows, living_count, IsKept, StandsFor, cache, entry_of, AreApart}
 use Rattle.tva_flow.proofs.Same.{flow_tells, by_bool, by_flow, and_false_right}
 use Rattle.tva_flow.proofs.Standing.{stands-later}
 use Rattle.tva_flow.proofs.Steps.{by_lt, kept_cases, not_living}

@@ -1,9 +1,5 @@
 -- The entry of a flow, once one entry is written.
-use Rattle.std.proofs.Common.{◌≡◌, ℕ, ◌+◌, ◌<◌, cond, List, [], ◌∷◌, ◌++◌, length, get_or, set, take, Some, None, refl, sym, ap, ◌∙◌, inl, inr, ◌⊎◌, zero, suc, arith}
-use Rattle.tva_base.specs.declared.packet.Flow.{Flow}
-use Rattle.tva_flow.specs.declared.kept.Entry.{Entry}
-use Rattle.tva_flow.specs.Charges.{same_flow}
-use Rattle.tva_flow.specs.Stands.{entry_of, AreApart}
+use Rattle.tva_flow.proofs.Common.{◌≡◌, ℕ, ◌+◌, ◌<◌, cond, List, [], ◌∷◌, ◌++◌, length, get_or, set, take, Some, None, refl, sym, ap, ◌∙◌, inl, inr, ◌⊎◌, zero, suc, arith, Flow, Entry, same_flow, entry_of, AreApart}
 use Rattle.tva_flow.proofs.Same.{flow_tells, by_flow}
 
 -- where a flow has no entry, the first is not its own, and the rest has none either

@@ -1,10 +1,5 @@
 -- At each place of a list of charges no more flows live than there are slots.
-use Rattle.std.proofs.lemmas.Bool.Decides.{nat_tests}
-use Rattle.std.proofs.Common.{◌≡◌, ℕ, ◌+◌, ◌≤◌, true, ◌&&◌, List, [], ◌∷◌, ◌++◌, refl, sym, ap, ◌∙◌, subst, inl, inr, ◌⊎◌, arith, append_assoc, append-nil}
-use Rattle.std.proofs.lemmas.List.Elements.{All-head, All-tail}
-use Rattle.tva_base.specs.declared.packet.Flow.{Flow}
-use Rattle.tva_flow.specs.Charges.{Charge, same_flow, is_living, of_flow, lives, flows, living_count}
-use Rattle.tva_flow.specs.Stands.{NoChargeLater, IsNext, AreNext}
+use Rattle.tva_flow.proofs.Common.{nat_tests, ◌≡◌, ℕ, ◌+◌, ◌≤◌, true, ◌&&◌, List, [], ◌∷◌, ◌++◌, refl, sym, ap, ◌∙◌, subst, inl, inr, ◌⊎◌, arith, append_assoc, append-nil, All-head, All-tail, Flow, Charge, same_flow, is_living, of_flow, lives, flows, living_count, NoChargeLater, IsNext, AreNext}
 use Rattle.tva_flow.proofs.Same.{flow_tells, by_flow}
 use Rattle.tva_flow.proofs.Pushes.{of_flow-push}
 use Rattle.tva_flow.proofs.Rows.{authorised_room}

@@ -1,16 +1,8 @@
 -- Entries stay indexed where one is written or added.
-use Rattle.std.proofs.Common.{◌≡◌, ℕ, ◌+◌, ◌*◌, ◌<◌, ◌≤◌, List, [], ◌∷◌, length, get_or, set, Option, Some, None, refl, sym, ap, ◌∙◌, subst, inl, inr, ◌⊎◌, zero, suc, arith}
-use Rattle.std.specs.Option.{MatchOption}
-use Rattle.std.proofs.lemmas.Bool.{cases_eq}
-use Rattle.std.proofs.lemmas.List.{get_or-set_same, get_or-set_other, get_or_default, length-set}
-use Rattle.tva_base.specs.declared.packet.Flow.{Flow}
+use Rattle.tva_flow.proofs.Common.{◌≡◌, ℕ, ◌+◌, ◌*◌, ◌<◌, ◌≤◌, List, [], ◌∷◌, length, get_or, set, Option, Some, None, refl, sym, ap, ◌∙◌, subst, inl, inr, ◌⊎◌, zero, suc, arith, MatchOption, cases_eq, get_or-set_same, get_or-set_other, get_or_default, length-set, Flow, Entry, bucket_of, entry_of, AreIndexed, IsUpTo}
 use Rattle.tva_index.specs.Buckets.{Placed, placed, IsLastBelow}
 use Rattle.tva_index.proofs.Homes.{in_range, here as home_here, elsewhere as home_there}
 use Rattle.tva_flow.specs.declared.hash.HashKey.{HashKey}
-use Rattle.tva_flow.specs.declared.kept.Entry.{Entry}
-use Rattle.tva_flow.specs.Hash.{bucket_of}
-use Rattle.tva_flow.specs.Stands.{entry_of}
-use Rattle.tva_flow.specs.Index.{AreIndexed, IsUpTo}
 use Rattle.tva_flow.proofs.Entries.{not_first}
 
 -- what is read after a write, and after a further element

@@ -1,12 +1,5 @@
 -- Numbers that are no later than the ends of the entries: what a least one tells, and how many are late.
-use Rattle.std.proofs.Common.{◌≡◌, ℕ, ◌+◌, ◌<◌, ◌≤◌, cond, eqb, List, [], ◌∷◌, length, get_or, set, Some, sym, ap, subst, zero, suc, inl, inr, ◌⊎◌, arith}
-use Rattle.std.specs.List.{All}
-use Rattle.std.proofs.lemmas.Bool.{cases_eq}
-use Rattle.std.proofs.lemmas.Bool.Decides.{nat_tests}
-use Rattle.std.proofs.lemmas.List.{get_or-set_same, get_or-set_other, get_or_default}
-use Rattle.tva_index.specs.Lowest.{IsLeastPlace}
-use Rattle.tva_flow.specs.declared.kept.Entry.{Entry}
-use Rattle.tva_flow.specs.Index.{AreNoLater}
+use Rattle.tva_flow.proofs.Common.{◌≡◌, ℕ, ◌+◌, ◌<◌, ◌≤◌, cond, eqb, List, [], ◌∷◌, length, get_or, set, Some, sym, ap, subst, zero, suc, inl, inr, ◌⊎◌, arith, All, cases_eq, nat_tests, get_or-set_same, get_or-set_other, get_or_default, IsLeastPlace, Entry, AreNoLater}
 use Rattle.tva_flow.proofs.Indexed.{same_read}
 
 abbrev pub AllLive : ℕ → List Entry → Type 0

@@ -1,15 +1,5 @@
 -- An entry's end stays near.
-use Rattle.std.proofs.Common.{◌≡◌, ℕ, ◌+◌, ◌*◌, ◌^◌, ◌<◌, ◌≤◌, false, not, ◌&&◌, cond, leb, List, [], ◌∷◌, ◌++◌, length, get_or, set, sym, ap, subst, zero, suc, arith}
-use Rattle.std.proofs.lemmas.Bool.Decides.{nat_tests}
-use Rattle.std.proofs.lemmas.Grind.{div_ceil_times}
-use Rattle.std.proofs.Math.Nat.{le-mul_of_pos_right, mul-le-mul_left, mul-le-mul_right, le_of_mul-le-mul_right}
-use Rattle.tva_base.specs.declared.packet.Rights.{Rights}
-use Rattle.tva_base.specs.declared.packet.Grant.{Grant}
-use Rattle.tva_base.specs.Credit.{credit_of}
-use Rattle.tva_flow.specs.declared.kept.Entry.{Entry}
-use Rattle.tva_flow.specs.Charges.{same_grant}
-use Rattle.tva_flow.specs.Stands.{IsChargeable}
-use Rattle.tva_flow.specs.Steps.{IsNear, AreNear, blocks, counted, renewed, opened}
+use Rattle.tva_flow.proofs.Common.{◌≡◌, ℕ, ◌+◌, ◌*◌, ◌^◌, ◌<◌, ◌≤◌, false, not, ◌&&◌, cond, leb, List, [], ◌∷◌, ◌++◌, length, get_or, set, sym, ap, subst, zero, suc, arith, nat_tests, div_ceil_times, le-mul_of_pos_right, mul-le-mul_left, mul-le-mul_right, le_of_mul-le-mul_right, Rights, Grant, credit_of, Entry, same_grant, IsChargeable, IsNear, AreNear, blocks, counted, renewed, opened}
 use Rattle.tva_flow.proofs.Same.{by_bool, same_is, same_grant-self}
 
 pub near-later : (last now : ℕ) (es : List Entry) → last ≤ now → AreNear last es → AreNear now es

@@ -1,13 +1,5 @@
 -- What holds of the charges before a place of a list.
-use Rattle.std.proofs.Common.{◌≡◌, ℕ, false, List, [], ◌∷◌, ◌++◌, sym, subst, refl, append_assoc, append-nil}
-use Rattle.std.specs.List.{All}
-use Rattle.std.proofs.lemmas.List.Elements.{All-nil, All-cons, All-head, All-tail}
-use Rattle.tva_flow.specs.declared.verdicts.Verdict.{Verdict}
-use Rattle.tva_flow.specs.declared.verdicts.Verdict.TheVariants.{Authorised}
-use Rattle.tva_flow.specs.Charges.{Charge}
-use Rattle.tva_flow.specs.Verdicts.{nonce_verdict, is_authorised, charged}
-use Rattle.tva_flow.specs.Stands.{IsNext, AreNext}
-use Rattle.tva_flow.specs.Budget.{IsWithinSeconds, AreTimely}
+use Rattle.tva_flow.proofs.Common.{◌≡◌, ℕ, false, List, [], ◌∷◌, ◌++◌, sym, subst, refl, append_assoc, append-nil, All, All-nil, All-cons, All-head, All-tail, Verdict, Authorised, Charge, nonce_verdict, is_authorised, charged, IsNext, AreNext, IsWithinSeconds, AreTimely}
 use Rattle.tva_flow.proofs.Timely.{held-timely}
 
 -- the charges before a place are a list that a router can have

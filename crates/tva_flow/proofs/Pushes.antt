@@ -1,12 +1,5 @@
 -- What one more charge changes.
-use Rattle.std.proofs.lemmas.Bool.Decides.{nat_tests}
-use Rattle.std.proofs.Common.{◌≡◌, ℕ, ◌+◌, ◌≤◌, Bool, true, false, not, ◌||◌, cond, List, [], ◌∷◌, ◌++◌, Some, refl, sym, ap, subst, max, arith, append_assoc, append-nil, sum_by}
-use Rattle.std.proofs.lemmas.List.Sums.{sum_by-cons, sum_by_push}
-use Rattle.std.proofs.lemmas.List.Elements.{All-push, All-weaker}
-use Rattle.tva_base.specs.declared.packet.Flow.{Flow}
-use Rattle.tva_base.specs.Credit.{credit_of}
-use Rattle.tva_flow.specs.Charges.{Charge, same_flow, end_of, is_living, restarts, run, last_or, last_charge, of_flow}
-use Rattle.tva_flow.specs.Stands.{NoChargeLater, IsNext, AreNext}
+use Rattle.tva_flow.proofs.Common.{nat_tests, ◌≡◌, ℕ, ◌+◌, ◌≤◌, Bool, true, false, not, ◌||◌, cond, List, [], ◌∷◌, ◌++◌, Some, refl, sym, ap, subst, max, arith, append_assoc, append-nil, sum_by, sum_by-cons, sum_by_push, All-push, All-weaker, Flow, credit_of, Charge, same_flow, end_of, is_living, restarts, run, last_or, last_charge, of_flow, NoChargeLater, IsNext, AreNext}
 
 abbrev pub credit : Charge → ℕ
 credit c = credit_of c.length c.grant.rights

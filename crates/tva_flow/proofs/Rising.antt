@@ -1,12 +1,5 @@
 -- In a run a grant that is newer than the holder's has no charge yet.
-use Rattle.std.proofs.Common.{◌≡◌, ℕ, ◌<◌, true, false, cond, List, [], ◌∷◌, ◌++◌, Some, refl, sym, subst, arith, append_assoc, append-nil}
-use Rattle.std.proofs.lemmas.Bool.Decides.{nat_tests}
-use Rattle.std.proofs.lemmas.List.Sums.{sum_by-cons, sum_by_push}
-use Rattle.tva_base.specs.declared.packet.Flow.{Flow}
-use Rattle.tva_base.specs.declared.packet.Grant.{Grant}
-use Rattle.tva_flow.specs.Charges.{Charge, end_of, is_living, run, bytes_under, bytes_of, last_or, last_charge, of_flow}
-use Rattle.tva_flow.specs.Verdicts.{supersedes, IsAuthorised}
-use Rattle.tva_flow.specs.Stands.{AreNext}
+use Rattle.tva_flow.proofs.Common.{◌≡◌, ℕ, ◌<◌, true, false, cond, List, [], ◌∷◌, ◌++◌, Some, refl, sym, subst, arith, append_assoc, append-nil, nat_tests, sum_by-cons, sum_by_push, Flow, Grant, Charge, end_of, is_living, run, bytes_under, bytes_of, last_or, last_charge, of_flow, supersedes, IsAuthorised, AreNext}
 use Rattle.tva_flow.proofs.Same.{by_flow, and_false}
 use Rattle.tva_flow.proofs.Pushes.{of_flow-push}
 use Rattle.tva_flow.proofs.Steps.{by_lt, same_last, run_new, run_more}

@@ -1,12 +1,5 @@
 -- What holds where a packet is authorised, row by row.
-use Rattle.std.proofs.Common.{◌≡◌, ℕ, ◌+◌, ◌*◌, ◌<◌, ◌≤◌, Bool, true, false, not, ◌&&◌, ◌||◌, cond, eqb, ltb, leb, List, Option, Some, None, refl, sym, ap, ◌∙◌, subst, inl, inr, ◌⊎◌, arith}
-use Rattle.std.proofs.lemmas.Bool.Decides.{nat_tests}
-use Rattle.tva_base.specs.declared.packet.Flow.{Flow}
-use Rattle.tva_base.specs.declared.packet.Grant.{Grant}
-use Rattle.tva_base.specs.Clock.{router_second}
-use Rattle.tva_flow.specs.declared.verdicts.Verdict.TheVariants.{Authorised, Expired, OverN, UnknownNonce, CacheFull, Superseded}
-use Rattle.tva_flow.specs.Charges.{Charge, same_grant, used, lives, holder, living_count}
-use Rattle.tva_flow.specs.Verdicts.{supersedes, list_verdict, nonce_verdict, nonce_rows, IsAuthorised}
+use Rattle.tva_flow.proofs.Common.{◌≡◌, ℕ, ◌+◌, ◌*◌, ◌<◌, ◌≤◌, Bool, true, false, not, ◌&&◌, ◌||◌, cond, eqb, ltb, leb, List, Option, Some, None, refl, sym, ap, ◌∙◌, subst, inl, inr, ◌⊎◌, arith, nat_tests, Flow, Grant, router_second, Authorised, Expired, OverN, UnknownNonce, CacheFull, Superseded, Charge, same_grant, used, lives, holder, living_count, supersedes, list_verdict, nonce_verdict, nonce_rows, IsAuthorised}
 use Rattle.tva_flow.proofs.Same.{and_false_right, same_grant-self}
 
 within : (units bytes : ℕ) → ltb units bytes ≡ false → bytes ≤ units

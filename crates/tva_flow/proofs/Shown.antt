@@ -1,12 +1,5 @@
 -- What was shown for the grants of entries, once one is written or added.
-use Rattle.std.proofs.Common.{◌≡◌, ℕ, ◌<◌, Bool, true, List, [], ◌∷◌, ◌++◌, length, get_or, set, Option, Some, None, refl, sym, ap, ◌∙◌, subst, arith}
-use Rattle.std.proofs.lemmas.List.{get_or-set_same, get_or_push, length-set, length_push}
-use Rattle.std.proofs.lemmas.List.Elements.{All-set, All-push}
-use Rattle.std.specs.Option.{IfSome}
-use Rattle.tva_base.specs.declared.packet.Flow.{Flow}
-use Rattle.tva_base.specs.declared.packet.Grant.{Grant}
-use Rattle.tva_flow.specs.declared.kept.Entry.{Entry}
-use Rattle.tva_flow.specs.Places.{AreShown, IsPlaceOf, IsShown}
+use Rattle.tva_flow.proofs.Common.{◌≡◌, ℕ, ◌<◌, Bool, true, List, [], ◌∷◌, ◌++◌, length, get_or, set, Option, Some, None, refl, sym, ap, ◌∙◌, subst, arith, get_or-set_same, get_or_push, length-set, length_push, All-set, All-push, IfSome, Flow, Grant, Entry, AreShown, IsPlaceOf, IsShown}
 
 pub shown-get : (test : Grant → ℕ → Bool) (es : List Entry) (i : ℕ) (e : Entry) → AreShown test es → i < length es → e ≡ get_or es i e → test e.grant e.cap ≡ true
 shown-get test es i e a l q = subst (λ (z : Entry). test z.grant z.cap ≡ true) (sym q) (a i e l)

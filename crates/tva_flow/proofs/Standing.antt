@@ -1,12 +1,5 @@
 -- A cache goes on to stand for the history.
-use Rattle.std.proofs.Common.{◌≡◌, ℕ, ◌<◌, ◌≤◌, cond, List, [], ◌∷◌, ◌++◌, length, set, get_or, Some, None, sym, ap, ◌∙◌, subst, inl, inr, ◌⊎◌, zero, suc, arith, length-append}
-use Rattle.std.proofs.lemmas.List.{length-set}
-use Rattle.tva_base.specs.declared.packet.Grant.{Grant}
-use Rattle.tva_flow.specs.declared.kept.Entry.{Entry}
-use Rattle.tva_base.specs.declared.packet.Flow.{Flow}
-use Rattle.tva_flow.specs.Charges.{Charge, same_flow, of_flow}
-use Rattle.tva_flow.specs.Verdicts.{IsAuthorised}
-use Rattle.tva_flow.specs.Stands.{Holds, IsKept, StandsFor, cache, entry_of, AreApart, IsChargeable}
+use Rattle.tva_flow.proofs.Common.{◌≡◌, ℕ, ◌<◌, ◌≤◌, cond, List, [], ◌∷◌, ◌++◌, length, set, get_or, Some, None, sym, ap, ◌∙◌, subst, inl, inr, ◌⊎◌, zero, suc, arith, length-append, length-set, Grant, Entry, Flow, Charge, same_flow, of_flow, IsAuthorised, Holds, IsKept, StandsFor, cache, entry_of, AreApart, IsChargeable}
 use Rattle.tva_flow.proofs.Same.{flow_tells, by_flow}
 use Rattle.tva_flow.proofs.Pushes.{of_flow-push, past-push, past-later, next-push}
 use Rattle.tva_flow.proofs.Entries.{not_there, entry_of-set, apart-set, entry_of-push, apart-push}

@@ -1,14 +1,6 @@
 -- One flow, and its entry, once time goes on or a charge comes.
-use Rattle.std.proofs.Common.{◌≡◌, ℕ, ◌+◌, ◌<◌, ◌≤◌, Bool, true, false, cond, ltb, List, [], ◌∷◌, ◌++◌, length, Option, Some, None, refl, sym, ap, ◌∙◌, subst, inl, inr, ◌⊎◌, suc, arith}
+use Rattle.tva_flow.proofs.Common.{◌≡◌, ℕ, ◌+◌, ◌<◌, ◌≤◌, Bool, true, false, cond, ltb, List, [], ◌∷◌, ◌++◌, length, Option, Some, None, refl, sym, ap, ◌∙◌, subst, inl, inr, ◌⊎◌, suc, arith, nat_tests, leb_tells, sum_by-cons, sum_by_push, Grant, Entry, credit_of, Charge, charge, end_of, is_living, run, bytes_under, bytes_of, last_charge, entry, Holds, IsKept}
 use Rattle.std.specs.Bool.{MatchBool}
-use Rattle.std.proofs.lemmas.Bool.Decides.{nat_tests, leb_tells}
-use Rattle.std.proofs.lemmas.List.Sums.{sum_by-cons, sum_by_push}
-use Rattle.tva_base.specs.declared.packet.Grant.{Grant}
-use Rattle.tva_flow.specs.declared.kept.Entry.{Entry}
-use Rattle.tva_base.specs.Credit.{credit_of}
-use Rattle.tva_flow.specs.Charges.{Charge, charge, end_of, is_living, run, bytes_under, bytes_of, last_charge}
-use Rattle.tva_flow.specs.Steps.{entry}
-use Rattle.tva_flow.specs.Stands.{Holds, IsKept}
 use Rattle.tva_flow.proofs.Same.{same_grant-self}
 use Rattle.tva_flow.proofs.Pushes.{end_of-push, run-push, last_charge-push}
 

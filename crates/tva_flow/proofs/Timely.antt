@@ -1,16 +1,5 @@
 -- What each answer adds came in its grant's seconds.
-use Rattle.std.proofs.Common.{◌≡◌, ℕ, ◌+◌, ◌<◌, ◌≤◌, List, [], ◌∷◌, ◌++◌, Some, refl, sym, ◌∙◌, subst, arith, append-nil}
-use Rattle.std.specs.List.{All}
-use Rattle.std.proofs.lemmas.List.Elements.{All-head, All-tail, All-push, All-filter}
-use Rattle.tva_base.specs.declared.packet.Flow.{Flow}
-use Rattle.tva_base.specs.declared.packet.Grant.{Grant}
-use Rattle.tva_base.specs.Clock.{router_second}
-use Rattle.tva_flow.specs.declared.verdicts.Verdict.{Verdict}
-use Rattle.tva_flow.specs.declared.verdicts.Verdict.TheVariants.{Authorised}
-use Rattle.tva_flow.specs.Charges.{Charge, charge, same_flow, of_flow, last_or, last_charge}
-use Rattle.tva_flow.specs.Verdicts.{list_verdict, nonce_verdict, charged}
-use Rattle.tva_flow.specs.Stands.{NoChargeLater}
-use Rattle.tva_flow.specs.Budget.{IsWithinSeconds, AreTimely}
+use Rattle.tva_flow.proofs.Common.{◌≡◌, ℕ, ◌+◌, ◌<◌, ◌≤◌, List, [], ◌∷◌, ◌++◌, Some, refl, sym, ◌∙◌, subst, arith, append-nil, All, All-head, All-tail, All-push, All-filter, Flow, Grant, router_second, Verdict, Authorised, Charge, charge, same_flow, of_flow, last_or, last_charge, list_verdict, nonce_verdict, charged, NoChargeLater, IsWithinSeconds, AreTimely}
 use Rattle.tva_flow.proofs.Rows.{list_rows, held}
 
 -- what holds of each charge of a list holds of the last

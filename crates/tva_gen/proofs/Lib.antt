@@ -1,3 +1,4 @@
+mod Common
 pub mod Lines
 pub mod RowsPut
 pub mod Whole

@@ -1,7 +1,6 @@
 -- Lines that were put in parts.
-use Rattle.std.proofs.Common.{if◌then◌else◌, Ok, Err, OnOk, is_ok, ◌≡◌, ◌∙◌, ap, ℕ, List, [], ◌∷◌, ◌++◌, codes, append_assoc, arith}
+use Rattle.tva_gen.proofs.Common.{if◌then◌else◌, Ok, Err, OnOk, is_ok, ◌≡◌, ◌∙◌, ap, ℕ, List, [], ◌∷◌, ◌++◌, codes, append_assoc, arith, joined}
 use Rattle.std.specs.declared.result.Result.{Result}
-use Rattle.tva_gen.specs.Rows.{joined}
 
 -- what was put where nothing failed
 pub on_ok_put : {T E : Type 0} (r : Result T E) (now put before : List ℕ) → now ≡ (if is_ok r then put else before) → OnOk r (now ≡ put)

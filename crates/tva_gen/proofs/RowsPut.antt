@@ -1,12 +1,7 @@
 -- Rows that were put one after another.
-use Rattle.std.proofs.Common.{◌≡◌, ◌∙◌, sym, ap, refl, ℕ, zero, suc, ◌-◌, ◌≤◌, ◌<◌, List, [], ◌∷◌, ◌++◌, length, append_assoc, arith}
-use Rattle.std.proofs.lemmas.List.{append-nil}
-use Rattle.rand_pcg.specs.Lcg.{Lcg}
-use Rattle.tva_base.specs.declared.plan.HostPlan.{HostPlan}
+use Rattle.tva_gen.proofs.Common.{◌≡◌, ◌∙◌, sym, ap, refl, ℕ, zero, suc, ◌-◌, ◌≤◌, ◌<◌, List, [], ◌∷◌, ◌++◌, length, append_assoc, arith, append-nil, Lcg, HostPlan, row_line, drawn_rows, row_count}
 use Rattle.tva_gen.specs.declared.draw.RowWords.{RowWords}
 use Rattle.tva_gen.specs.Draws.{state_behind, draw_at, later}
-use Rattle.tva_gen.specs.Rows.{row_line, drawn_rows}
-use Rattle.tva_gen.specs.Text.{row_count}
 
 -- the first of some rows, and the others
 first_row : (horizon : ℕ) (hosts : List HostPlan) (left time : ℕ) (g : Lcg) → 1 ≤ left → drawn_rows horizon hosts left time g ≡ row_line hosts (later horizon time (draw_at g)) (draw_at g) ++ drawn_rows horizon hosts (left - 1) (later horizon time (draw_at g)) (state_behind g)

@@ -1,12 +1,6 @@
 -- A whole trace, with hosts and without.
-use Rattle.std.proofs.Common.{◌≡◌, ◌∙◌, sym, ap, ℕ, ◌≤◌, List, ◌++◌, length, map, arith}
-use Rattle.std.proofs.lemmas.List.{length-map}
-use Rattle.rand_pcg.specs.Lcg.{Lcg}
-use Rattle.tva_base.specs.declared.plan.HostPlan.{HostPlan}
+use Rattle.tva_gen.proofs.Common.{◌≡◌, ◌∙◌, sym, ap, ℕ, ◌≤◌, List, ◌++◌, length, map, arith, length-map, Lcg, HostPlan, hosts_in, drawn_rows, generated, generator_of, header}
 use Rattle.tva_plan.specs.declared.config.Config.{Config}
-use Rattle.tva_gen.specs.Hosts.{hosts_in}
-use Rattle.tva_gen.specs.Rows.{drawn_rows}
-use Rattle.tva_gen.specs.Text.{generated, generator_of, header}
 use Rattle.tva_gen.proofs.RowsPut.{with_hosts, without_hosts}
 
 -- the hosts that were found are so many

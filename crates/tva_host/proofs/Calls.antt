@@ -1,9 +1,5 @@
 -- The history and the times of one more call.
-use Rattle.std.proofs.Common.{◌≡◌, ℕ, ◌≤◌, List, [], ◌∷◌, ◌++◌, fold, refl, sym, subst, arith}
-use Rattle.tva_base.specs.declared.plan.HostPlan.{HostPlan}
-use Rattle.tva_host.specs.History.{History, beginning}
-use Rattle.tva_host.specs.Calls.{Call, Intended, Injected, Received, after_call, history_of, last_time, NeverFall}
-use Rattle.tva_host.specs.Stands.{HostData, Keeps, StandsFor}
+use Rattle.tva_host.proofs.Common.{◌≡◌, ℕ, ◌≤◌, List, [], ◌∷◌, ◌++◌, fold, refl, sym, subst, arith, HostPlan, History, beginning, Call, Intended, Injected, Received, after_call, history_of, last_time, NeverFall, HostData, Keeps, StandsFor}
 
 -- the history after these calls, which come after those that made it
 abbrev pub history_from : HostPlan → History → List Call → History

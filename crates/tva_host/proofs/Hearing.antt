@@ -1,28 +1,11 @@
 -- What a host makes of a packet is by the definitions.
-use Rattle.std.proofs.Common.{◌≡◌, ℕ, Bool, List, ◌++◌, ◌∷◌, [], true, false, not, eqb, Option, Some, None, append-nil, refl, sym, ap, subst, ⊎_elim, ◌∙◌}
-use Rattle.std.proofs.lemmas.Bool.{cases_Bool, false≢true}
-use Rattle.std.specs.Option.{is_some}
-use Rattle.tva_base.specs.declared.addresses.Address.{Address}
-use Rattle.tva_base.specs.declared.packet.Rights.{Rights}
-use Rattle.tva_base.specs.declared.packet.Upper.{Upper}
-use Rattle.tva_base.specs.declared.plan.HostPlan.{HostPlan}
-use Rattle.tva_shim.specs.declared.packets.Carried.{Carried}
+use Rattle.tva_host.proofs.Common.{◌≡◌, ℕ, Bool, List, ◌++◌, ◌∷◌, [], true, false, not, eqb, Option, Some, None, append-nil, refl, sym, ap, subst, ⊎_elim, ◌∙◌, cases_Bool, false≢true, is_some, Address, Rights, Upper, HostPlan, Carried, PacketData, Deed, Decided, grant_decision, is_granted, lets_in, was_sent_to, PolicyPlan, ReturnInfo, Made, Receipt, History, HostData, Keeps, back_in, ClaimData, became_of, what_came, reply_of, claim_in, notice_for, granted, decided_on, answer_to_claim, brought_by, after_answer, after_reply, before_reply, stray, received, receipt_of, after_receipt}
 use Rattle.tva_shim.specs.declared.packets.Carried.TheVariants as carried
-use Rattle.tva_shim.specs.Packets.{PacketData}
-use Rattle.tva_policy.specs.Grants.{Deed, Decided, grant_decision, is_granted, lets_in, was_sent_to}
 use Rattle.tva_base.specs.declared.plan.PolicyKind.{PolicyKind}
 use Rattle.tva_base.specs.declared.plan.PolicyKind.TheVariants.{DenyAll, Client, Server}
-use Rattle.tva_base.specs.declared.plan.PolicyPlan.{PolicyPlan}
 use Rattle.tva_policy.specs.Notes as policy
 use Rattle.tva_base.specs.declared.event.WhatKind.{WhatKind}
 use Rattle.tva_base.specs.declared.event.BackKind.{BackKind}
-use Rattle.tva_shim.specs.declared.kinds.ReturnInfo.{ReturnInfo}
-use Rattle.tva_host.specs.declared.made.Made.{Made}
-use Rattle.tva_host.specs.declared.made.Receipt.{Receipt}
-use Rattle.tva_host.specs.History.{History}
-use Rattle.tva_host.specs.Stands.{HostData, Keeps}
-use Rattle.tva_shim.specs.Shows.{back_in}
-use Rattle.tva_host.specs.Receiving.{ClaimData, became_of, what_came, reply_of, claim_in, notice_for, granted, decided_on, answer_to_claim, brought_by, after_answer, after_reply, before_reply, stray, received, receipt_of, after_receipt}
 use Rattle.tva_host.proofs.Standing.{noted, keeps-deed}
 
 -- the policy decided on a claim

@@ -1,20 +1,9 @@
 -- The length of a packet in a shape is the one that its sender counts.
-use Rattle.std.proofs.Common.{◌≡◌, ℕ, ◌+◌, false, length, refl, ap, ◌∙◌, arith}
-use Rattle.tva_base.specs.declared.addresses.Address.{Address}
-use Rattle.tva_base.specs.declared.packet.Upper.{Upper}
-use Rattle.tva_base.specs.declared.plan.HostPlan.{HostPlan}
-use Rattle.tva_shim.specs.declared.kinds.ReturnInfo.{ReturnInfo}
+use Rattle.tva_host.proofs.Common.{◌≡◌, ℕ, ◌+◌, false, length, refl, ap, ◌∙◌, arith, Address, Upper, HostPlan, ReturnInfo, Carried, layout, return_size, PacketData, packet_length, carried_bytes, Shape, length_of, History, is_legacy, shim_of, carried_by, next_shape, intended}
 use Rattle.tva_shim.specs.declared.kinds.ReturnInfo.TheVariants as backs
-use Rattle.tva_shim.specs.declared.packets.Carried.{Carried}
 use Rattle.tva_shim.specs.declared.packets.Carried.TheVariants as carried
-use Rattle.tva_shim.specs.Layout.{layout, return_size}
-use Rattle.tva_shim.specs.Packets.{PacketData, packet_length, carried_bytes}
 use Rattle.tva_shim.proofs.Sizes.{length-layout}
-use Rattle.tva_sender.specs.declared.shape.Shape.{Shape}
 use Rattle.tva_sender.specs.declared.shape.Shape.TheVariants as shapes
-use Rattle.tva_sender.specs.Shapes.{length_of}
-use Rattle.tva_host.specs.History.{History}
-use Rattle.tva_host.specs.Sending.{is_legacy, shim_of, carried_by, next_shape, intended}
 
 shim-length : (version : ℕ) (shape : Shape) (back : ReturnInfo) (payload : ℕ) → is_legacy shape ≡ false
     → 20 + length (layout (shim_of version shape back)) + payload ≡ length_of version shape (payload + return_size version back)

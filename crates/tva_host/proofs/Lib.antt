@@ -1,3 +1,4 @@
+mod Common
 pub mod Standing
 mod Making
 mod Hearing

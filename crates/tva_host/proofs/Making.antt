@@ -1,21 +1,8 @@
 -- The packets that were made are those of the definitions.
-use Rattle.std.proofs.Common.{◌≡◌, ℕ, Option, Some, ap, sym, subst, ◌∙◌}
-use Rattle.tva_base.specs.declared.addresses.Address.{Address}
+use Rattle.tva_host.proofs.Common.{◌≡◌, ℕ, Option, Some, ap, sym, subst, ◌∙◌, Address, Upper, HostPlan, ReturnInfo, Carried, PacketData, upper_size, Sent, Shape, Made, History, with_deed, with_packet, with_prepared, HostData, Keeps, next_with, next_shape, next_made, with_made, kind_shown_of, carried_by, shim_of, intended, after_intending, body_of, reply_of, after_reply}
 use Rattle.tva_base.specs.declared.packet.Flow.{Flow}
-use Rattle.tva_base.specs.declared.packet.Upper.{Upper}
-use Rattle.tva_base.specs.declared.plan.HostPlan.{HostPlan}
 use Rattle.tva_base.specs.declared.event.ShapeKind.{ShapeKind}
-use Rattle.tva_shim.specs.declared.kinds.ReturnInfo.{ReturnInfo}
-use Rattle.tva_shim.specs.declared.packets.Carried.{Carried}
 use Rattle.tva_shim.specs.declared.packets.Carried.TheVariants as carried
-use Rattle.tva_shim.specs.Packets.{PacketData, upper_size}
-use Rattle.tva_policy.specs.Grants.{Sent}
-use Rattle.tva_sender.specs.declared.shape.Shape.{Shape}
-use Rattle.tva_host.specs.declared.made.Made.{Made}
-use Rattle.tva_host.specs.History.{History, with_deed, with_packet, with_prepared}
-use Rattle.tva_host.specs.Stands.{HostData, Keeps}
-use Rattle.tva_host.specs.Sending.{next_with, next_shape, next_made, with_made, kind_shown_of, carried_by, shim_of, intended, after_intending}
-use Rattle.tva_host.specs.Receiving.{body_of, reply_of, after_reply}
 
 abbrev made : PacketData → ShapeKind → Made
 made packet shape = record { packet = packet; shape = shape }

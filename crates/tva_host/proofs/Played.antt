@@ -1,26 +1,10 @@
 -- Each peer's contacts in a host's history are such as a sender can have.
-use Rattle.std.proofs.Common.{◌≡◌, ℕ, ◌≤◌, Bool, true, false, cond, eqb, List, [], ◌∷◌, ◌++◌, Option, Some, None, refl, arith, append-nil}
-use Rattle.std.proofs.lemmas.Bool.{and_parts}
+use Rattle.tva_host.proofs.Common.{◌≡◌, ℕ, ◌≤◌, Bool, true, false, cond, eqb, List, [], ◌∷◌, ◌++◌, Option, Some, None, refl, arith, append-nil, and_parts, Address, Rights, Upper, HostPlan, ReturnInfo, PacketData, Sent, Contact, Prepared, Taken, Notice, awaits, is_within, takes, length_of, of_peer, History, beginning, with_deed, next_nonce, next_shape, with_made, after_intending, back_in, met_by, claim_in, answer_to_claim, brought_by, body_of, after_reply, before_reply, after_receipt, Call, Intended, Injected, Received, after_call, history_of, last_time, NeverFall}
 use Rattle.std.proofs.lemmas.List.Elements.{All-nil}
-use Rattle.tva_base.specs.declared.addresses.Address.{Address}
-use Rattle.tva_base.specs.declared.packet.Rights.{Rights}
-use Rattle.tva_base.specs.declared.packet.Upper.{Upper}
-use Rattle.tva_base.specs.declared.plan.HostPlan.{HostPlan}
-use Rattle.tva_shim.specs.declared.kinds.ReturnInfo.{ReturnInfo}
 use Rattle.tva_shim.specs.declared.kinds.ReturnInfo.TheVariants as backs
-use Rattle.tva_shim.specs.Packets.{PacketData}
-use Rattle.tva_policy.specs.Grants.{Sent}
-use Rattle.tva_sender.specs.Contacts.{Contact, Prepared, Taken, Notice, awaits, is_within, takes}
-use Rattle.tva_sender.specs.Shapes.{length_of}
 use Rattle.tva_sender.specs.Played.{IsUpTo, NoneLater, IsNext, IsPlayed}
-use Rattle.tva_sender.specs.Book.{of_peer}
 use Rattle.tva_sender.proofs.Playing.{none-later, none-push, next-push, next-prepared}
 use Rattle.tva_sender.proofs.Standing.{each-more}
-use Rattle.tva_host.specs.History.{History, beginning, with_deed, next_nonce}
-use Rattle.tva_host.specs.Sending.{next_shape, with_made, after_intending}
-use Rattle.tva_shim.specs.Shows.{back_in}
-use Rattle.tva_host.specs.Receiving.{met_by, claim_in, answer_to_claim, brought_by, body_of, after_reply, before_reply, after_receipt}
-use Rattle.tva_host.specs.Calls.{Call, Intended, Injected, Received, after_call, history_of, last_time, NeverFall}
 use Rattle.tva_host.proofs.Calls.{history_from}
 
 -- each peer's contacts are played, and none is later than that

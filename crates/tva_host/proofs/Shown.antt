@@ -1,14 +1,6 @@
 -- An upper part that is to be answered is that of the reply.
-use Rattle.std.proofs.Common.{◌≡◌, ℕ, true, false, cond, eqb, Option, Some, None, refl}
-use Rattle.std.specs.Option.{IfSome}
-use Rattle.tva_base.specs.declared.addresses.Address.{Address}
-use Rattle.tva_base.specs.declared.packet.Upper.{Upper}
+use Rattle.tva_host.proofs.Common.{◌≡◌, ℕ, true, false, cond, eqb, Option, Some, None, refl, IfSome, Address, Upper, HostPlan, ReturnInfo, PacketData, History, brought_by, reply_of, upper_of, claim_in, answer_to_claim, before_reply, received, stray, receipt_of}
 use Rattle.tva_base.specs.declared.packet.Upper.TheVariants as upper
-use Rattle.tva_base.specs.declared.plan.HostPlan.{HostPlan}
-use Rattle.tva_shim.specs.declared.kinds.ReturnInfo.{ReturnInfo}
-use Rattle.tva_shim.specs.Packets.{PacketData}
-use Rattle.tva_host.specs.History.{History}
-use Rattle.tva_host.specs.Receiving.{brought_by, reply_of, upper_of, claim_in, answer_to_claim, before_reply, received, stray, receipt_of}
 
 brought : (node : ℕ) (plan : HostPlan) (h : History) (now : ℕ) (src : Address) (answer : Option ReturnInfo) (above : Upper)
     → upper_of (reply_of node plan h now src (brought_by above answer) above) ≡ above

@@ -1,28 +1,12 @@
 -- The history after one more deed, contact or packet.
-use Rattle.std.proofs.Common.{◌≡◌, ℕ, ◌+◌, ◌%◌, ◌^◌, ◌<◌, ◌≤◌, min, Bool, true, false, cond, List, [], ◌∷◌, ◌++◌, Option, Some, None, Result, Ok, Err, OnOk, OnErr, IfOk, append-nil, ap, sym, subst, ◌∙◌, arith}
-use Rattle.std.specs.Option.{IfSome}
-use Rattle.std.proofs.Math.Nat.{mod-add-mod}
-use Rattle.tva_base.specs.declared.addresses.Address.{Address}
-use Rattle.tva_base.specs.declared.packet.Rights.{Rights}
-use Rattle.tva_base.specs.declared.plan.PolicyPlan.{PolicyPlan}
+use Rattle.tva_host.proofs.Common.{◌≡◌, ℕ, ◌+◌, ◌%◌, ◌^◌, ◌<◌, ◌≤◌, min, Bool, true, false, cond, List, [], ◌∷◌, ◌++◌, Option, Some, None, Result, Ok, Err, OnOk, OnErr, IfOk, append-nil, ap, sym, subst, ◌∙◌, arith, IfSome, mod-add-mod, Address, Rights, PolicyPlan, ReturnInfo, IsReturn, Deed, Sent, grant_decision, is_granted, Shape, Contact, Prepared, Taken, takes, length_of, IsShowableContact, AreShowable, of_peer, History, beginning, with_deed, with_packet, with_prepared, HostData, host_data, Keeps, HasHistory}
 use Rattle.tva_base.specs.Plan.{IsHostPlan}
 use Rattle.tva_base.specs.Versions.{AreRights, AreSomeRights, IsVersion}
 use Rattle.tva_base.proofs.Widths.{some_rights}
 use Rattle.tva_sender.proofs.Taking.{taken_fits}
-use Rattle.tva_shim.specs.declared.kinds.ReturnInfo.{ReturnInfo}
 use Rattle.tva_shim.specs.declared.kinds.ReturnInfo.TheVariants as backs
-use Rattle.tva_shim.specs.Shims.{IsReturn}
-use Rattle.tva_policy.specs.Grants.{Deed, Sent, grant_decision, is_granted}
 use Rattle.tva_policy.specs.Notes as policy
-use Rattle.tva_sender.specs.declared.shape.Shape.{Shape}
-use Rattle.tva_sender.specs.Contacts.{Contact, Prepared, Taken, takes}
-use Rattle.tva_sender.specs.Shapes.{length_of}
-use Rattle.tva_sender.specs.Showable.{IsShowableContact, AreShowable}
 use Rattle.tva_sender.specs.Book as sender
-use Rattle.tva_sender.specs.Book.{of_peer}
-use Rattle.tva_host.specs.History.{History, beginning, with_deed, with_packet, with_prepared}
-use Rattle.tva_host.specs.Stands.{HostData, host_data, Keeps}
-use Rattle.tva_host.specs.Sound.{HasHistory}
 
 -- one more contact that a shim could carry
 pub showable-push : (version : ℕ) (h : List (Address × Contact)) (a : Address) (c : Contact) → AreShowable version h → IsShowableContact version c → AreShowable version (h ++ (a, c) ∷ [])

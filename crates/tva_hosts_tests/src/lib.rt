@@ -1,5 +1,5 @@
-//! Tests of hosts and of couriers. They stand in a crate of their own, since a crate is proved once more with its
-//! tests.
+//! Tests of flow caches, policies, senders, hosts and couriers. They stand in a crate of their own, since a crate
+//! is proved once more with its tests.
 #![tactic(auto)]
 
 #[cfg(test)]

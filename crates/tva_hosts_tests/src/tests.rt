@@ -3,6 +3,10 @@ ghost use Rattle.tva_shim.specs.Packets.{IsUpper};
 
 mod couriers;
 mod hosts;
+mod policies;
+mod premises;
+mod senders;
+mod verdicts;
 
 use std::alloc::{AllocError, Global};
 use tva_base::{Upper, decimal};

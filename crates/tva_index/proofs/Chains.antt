@@ -1,9 +1,5 @@
 -- Chains stay those of their buckets where a place is taken out or put in.
-use Rattle.std.proofs.Common.{◌≡◌, ℕ, ◌+◌, ◌<◌, ◌≤◌, List, length, get_or, set, Option, Some, None, sym, ◌∙◌, subst, inl, inr, arith}
-use Rattle.std.proofs.lemmas.Bool.{cases_lt, cases_eq}
-use Rattle.std.proofs.lemmas.List.{length-set, get_or_read}
-use Rattle.tva_index.specs.Buckets.{IsLastBelow}
-use Rattle.tva_index.specs.Links.{AreLinked, IsFirstAbove, IsWalk, link_of, with_last, with_before}
+use Rattle.tva_index.proofs.Common.{◌≡◌, ℕ, ◌+◌, ◌<◌, ◌≤◌, List, length, get_or, set, Option, Some, None, sym, ◌∙◌, subst, inl, inr, arith, cases_lt, cases_eq, length-set, get_or_read, IsLastBelow, AreLinked, IsFirstAbove, IsWalk, link_of, with_last, with_before}
 use Rattle.tva_index.proofs.Homes.{in_range, one_home, at_some, here, elsewhere, removed, last-out, last_before, added, last-other, last_below, last_above, last_is, last_moves}
 
 -- what is above the place in its bucket is the first of those, and there is none between

@@ -1,9 +1,5 @@
 -- The tree of keys with a key more, and with another number.
-use Rattle.std.proofs.Common.{◌≡◌, ℕ, zero, suc, ◌+◌, ◌*◌, ◌^◌, ◌<◌, List, [], ◌∷◌, ◌++◌, length, get_or, set, Option, Some, None, refl, sym, ap, ◌∙◌, subst, inl, inr, ◌⊎◌, arith}
-use Rattle.std.proofs.lemmas.Bool.{cases_lt, cases_eq}
-use Rattle.std.proofs.lemmas.List.{get_or-set_same, get_or-set_other, get_or_past, get_or_append_left, get_or_push, length-set, length_push}
-use Rattle.tva_index.specs.declared.bits.Numbered.{Numbered}
-use Rattle.tva_index.specs.Bits.{numbered, link_at, entry_at, link_by, spot, IsFree, IsKeyTree, IsMissing}
+use Rattle.tva_index.proofs.Common.{◌≡◌, ℕ, zero, suc, ◌+◌, ◌*◌, ◌^◌, ◌<◌, List, [], ◌∷◌, ◌++◌, length, get_or, set, Option, Some, None, refl, sym, ap, ◌∙◌, subst, inl, inr, ◌⊎◌, arith, cases_lt, cases_eq, get_or-set_same, get_or-set_other, get_or_past, get_or_append_left, get_or_push, length-set, length_push, Numbered, numbered, link_at, entry_at, link_by, spot, IsFree, IsKeyTree, IsMissing}
 use Rattle.tva_index.proofs.Homes.{here, elsewhere, added}
 use Rattle.tva_index.proofs.Paths.{key_is, same_entry, no_entry, no_link, step-on, came}
 

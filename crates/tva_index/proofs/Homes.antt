@@ -1,8 +1,5 @@
 -- The last place of a bucket, once one place is written.
-use Rattle.std.proofs.Common.{◌≡◌, ℕ, ◌<◌, ◌≤◌, List, length, get_or, set, Option, Some, None, refl, sym, ap, ◌∙◌, subst, inl, inr, ◌⊎◌, arith}
-use Rattle.std.proofs.lemmas.Bool.{cases_lt, cases_eq, cases_order}
-use Rattle.std.proofs.lemmas.List.{get_or_past, get_or-set_same, get_or-set_other}
-use Rattle.tva_index.specs.Buckets.{IsLastBelow}
+use Rattle.tva_index.proofs.Common.{◌≡◌, ℕ, ◌<◌, ◌≤◌, List, length, get_or, set, Option, Some, None, refl, sym, ap, ◌∙◌, subst, inl, inr, ◌⊎◌, arith, cases_lt, cases_eq, cases_order, get_or_past, get_or-set_same, get_or-set_other, IsLastBelow}
 
 -- a place in a bucket is one of the places
 pub in_range : (hs : List (Option ℕ)) (q b : ℕ) → get_or hs q None ≡ Some b → q < length hs

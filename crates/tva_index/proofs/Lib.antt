@@ -1,3 +1,4 @@
+mod Common
 pub mod Homes
 pub mod Chains
 pub mod Nodes

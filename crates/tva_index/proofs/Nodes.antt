@@ -1,9 +1,5 @@
 -- A tree of numbers: each node has at most the numbers below it, and stays so where one is written.
-use Rattle.std.proofs.Common.{◌≡◌, ℕ, ◌+◌, ◌-◌, ◌*◌, ◌/◌, ◌<◌, ◌≤◌, min, List, length, get_or, set, drop, replicate, map, ◌∷◌, refl, sym, ap, ap₂, ◌∙◌, subst, inl, inr, zero, suc, Some, arith}
-use Rattle.std.proofs.lemmas.Bool.{cases_lt, cases_eq}
-use Rattle.std.proofs.lemmas.List.{get_or-set_same, get_or-set_other, get_or-replicate, get_or-drop, get_or-map, length-drop}
-use Rattle.tva_index.specs.Lowest.{IsLeastPlace}
-use Rattle.tva_index.specs.Tree.{IsNode, AreNodes, AreNodesBut}
+use Rattle.tva_index.proofs.Common.{◌≡◌, ℕ, ◌+◌, ◌-◌, ◌*◌, ◌/◌, ◌<◌, ◌≤◌, min, List, length, get_or, set, drop, replicate, map, ◌∷◌, refl, sym, ap, ap₂, ◌∙◌, subst, inl, inr, zero, suc, Some, arith, cases_lt, cases_eq, get_or-set_same, get_or-set_other, get_or-replicate, get_or-drop, get_or-map, length-drop, IsLeastPlace, IsNode, AreNodes, AreNodesBut}
 
 -- what is read at a place is the number there
 pub number_at : {A : Type 0} (f : A → ℕ) (xs : List A) (i : ℕ) (x : A) → i < length xs → x ≡ get_or xs i x → get_or (map f xs) i 0 ≡ f x

@@ -1,10 +1,5 @@
 -- Walks by the bits of keys.
-use Rattle.std.proofs.Common.{◌≡◌, ℕ, zero, suc, ◌+◌, ◌*◌, ◌/◌, ◌%◌, ◌^◌, ◌<◌, ◌≤◌, List, length, Option, Some, None, refl, sym, ap, ◌∙◌, subst, inl, inr, arith}
-use Rattle.std.specs.Option.{option_and_then}
-use Rattle.std.proofs.lemmas.Bool.{cases_lt, cases_eq}
-use Rattle.tva_index.specs.declared.bits.Numbered.{Numbered}
-use Rattle.tva_index.specs.declared.bits.Led.{Led}
-use Rattle.tva_index.specs.Bits.{link_at, entry_at, HasKey, IsAbsent, bits_past, link_by, spot, IsKeyTree, IsFound, IsMissing, IsBelow}
+use Rattle.tva_index.proofs.Common.{◌≡◌, ℕ, zero, suc, ◌+◌, ◌*◌, ◌/◌, ◌%◌, ◌^◌, ◌<◌, ◌≤◌, List, length, Option, Some, None, refl, sym, ap, ◌∙◌, subst, inl, inr, arith, option_and_then, cases_lt, cases_eq, Numbered, Led, link_at, entry_at, HasKey, IsAbsent, bits_past, link_by, spot, IsKeyTree, IsFound, IsMissing, IsBelow}
 
 -- ## entries
 

@@ -1,11 +1,6 @@
 -- The links and the entries of places, after one place is read or written.
-use Rattle.std.proofs.Common.{◌≡◌, ℕ, zero, suc, ◌+◌, ◌*◌, ◌%◌, ◌<◌, List, [], ◌∷◌, length, get_or, set, replicate, Option, Some, None, refl, sym, ap, ◌∙◌, subst, inl, inr, arith}
-use Rattle.std.proofs.lemmas.Bool.{cases_eq}
-use Rattle.std.proofs.lemmas.List.{get_or-map, length-map, map-set}
-use Rattle.std.proofs.Math.Seq.{map-set_same}
-use Rattle.tva_index.specs.declared.bits.Numbered.{Numbered}
+use Rattle.tva_index.proofs.Common.{◌≡◌, ℕ, zero, suc, ◌+◌, ◌*◌, ◌%◌, ◌<◌, List, [], ◌∷◌, length, get_or, set, replicate, Option, Some, None, refl, sym, ap, ◌∙◌, subst, inl, inr, arith, cases_eq, get_or-map, length-map, map-set, map-set_same, Numbered, led_to, way_on, unused_place, links_of, entries_of, link_at, entry_at}
 use Rattle.tva_index.specs.declared.bits.Place.{Place}
-use Rattle.tva_index.specs.Bits.{led_to, way_on, unused_place, links_of, entries_of, link_at, entry_at}
 
 pub length-entries_of : (ps : List Place) → length (entries_of ps) ≡ length ps
 length-entries_of ps = length-map ps (λ (p : Place). p.entry)

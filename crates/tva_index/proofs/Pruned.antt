@@ -1,10 +1,5 @@
 -- The tree of keys without one of them.
-use Rattle.std.proofs.Common.{◌≡◌, ℕ, zero, suc, ◌+◌, ◌*◌, ◌%◌, ◌^◌, ◌<◌, List, [], ◌∷◌, ◌++◌, length, get_or, set, Option, Some, None, refl, sym, ap, ◌∙◌, subst, inl, inr, ◌⊎◌, arith}
-use Rattle.std.proofs.lemmas.Bool.{cases_lt, cases_eq}
-use Rattle.std.proofs.lemmas.List.{get_or_append_left, get_or_push, get_or_past, length-set, length_push}
-use Rattle.tva_index.specs.declared.bits.Numbered.{Numbered}
-use Rattle.tva_index.specs.declared.bits.Led.{Led}
-use Rattle.tva_index.specs.Bits.{link_at, entry_at, bits_past, link_by, spot, IsFree, IsKeyTree, IsLeafBelow, IsWithout}
+use Rattle.tva_index.proofs.Common.{◌≡◌, ℕ, zero, suc, ◌+◌, ◌*◌, ◌%◌, ◌^◌, ◌<◌, List, [], ◌∷◌, ◌++◌, length, get_or, set, Option, Some, None, refl, sym, ap, ◌∙◌, subst, inl, inr, ◌⊎◌, arith, cases_lt, cases_eq, get_or_append_left, get_or_push, get_or_past, length-set, length_push, Numbered, Led, link_at, entry_at, bits_past, link_by, spot, IsFree, IsKeyTree, IsLeafBelow, IsWithout}
 use Rattle.tva_index.proofs.Homes.{here, elsewhere, removed}
 use Rattle.tva_index.proofs.Paths.{has_key, same_entry, no_entry, no_link, same_place, step-on, came}
 use Rattle.tva_index.proofs.Grown.{entry_here, entry_there, entry_within}

@@ -1,12 +1,5 @@
 -- The places of keys in a ring, by their numbers.
-use Rattle.std.proofs.Common.{◌≡◌, ℕ, zero, suc, ◌+◌, ◌-◌, ◌%◌, ◌^◌, ◌<◌, List, [], ◌∷◌, ◌++◌, length, get_or, Option, Some, None, refl, sym, ap, ◌∙◌, subst, inl, inr, arith}
-use Rattle.std.specs.Option.{option_map}
-use Rattle.std.proofs.lemmas.Bool.{cases_lt, cases_eq, eq-eqb, ne_eqb}
-use Rattle.std.proofs.lemmas.List.{get_or_append_left, get_or_push, length_push}
-use Rattle.tva_index.specs.declared.bits.Numbered.{Numbered}
-use Rattle.tva_index.specs.Bits.{numbered, entry_at, HasKey, IsAbsent, IsKeyTree, IsPut, IsWritten, IsWithout}
-use Rattle.tva_index.specs.KeyRing.{place_in}
-use Rattle.tva_index.specs.Numbers.{AreNumbered}
+use Rattle.tva_index.proofs.Common.{◌≡◌, ℕ, zero, suc, ◌+◌, ◌-◌, ◌%◌, ◌^◌, ◌<◌, List, [], ◌∷◌, ◌++◌, length, get_or, Option, Some, None, refl, sym, ap, ◌∙◌, subst, inl, inr, arith, option_map, cases_lt, cases_eq, eq-eqb, ne_eqb, get_or_append_left, get_or_push, length_push, Numbered, numbered, entry_at, HasKey, IsAbsent, IsKeyTree, IsPut, IsWritten, IsWithout, place_in, AreNumbered}
 use Rattle.tva_index.proofs.Paths.{has_key, key_is, same_entry, no_entry}
 use Rattle.tva_index.proofs.Grown.{entry_here, entry_there, entry_read}
 

@@ -1,9 +1,5 @@
 -- The tree of keys at first.
-use Rattle.std.proofs.Common.{◌≡◌, ℕ, ◌+◌, ◌*◌, ◌^◌, ◌<◌, ◌≤◌, List, length, get_or, replicate, Option, None, sym, ap, ◌∙◌, subst, inl, inr, arith}
-use Rattle.std.proofs.lemmas.Bool.{cases_lt}
-use Rattle.std.proofs.lemmas.List.{get_or_past, get_or-replicate, length-replicate}
-use Rattle.tva_index.specs.declared.bits.Numbered.{Numbered}
-use Rattle.tva_index.specs.Bits.{link_at, entry_at, IsKeyTree}
+use Rattle.tva_index.proofs.Common.{◌≡◌, ℕ, ◌+◌, ◌*◌, ◌^◌, ◌<◌, ◌≤◌, List, length, get_or, replicate, Option, None, sym, ap, ◌∙◌, subst, inl, inr, arith, cases_lt, get_or_past, get_or-replicate, length-replicate, Numbered, link_at, entry_at, IsKeyTree}
 use Rattle.tva_index.proofs.Paths.{no_entry, no_link}
 
 abbrev pub nothing : {X : Type 0} → Option X

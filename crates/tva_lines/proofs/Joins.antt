@@ -1,6 +1,5 @@
 -- Words that are joined.
-use Rattle.std.proofs.Common.{◌≡◌, ◌∙◌, sym, ap, refl, ℕ, List, [], ◌∷◌, ◌++◌, append_assoc}
-use Rattle.std.specs.List.{join_with_byte}
+use Rattle.tva_lines.proofs.Common.{◌≡◌, ◌∙◌, sym, ap, refl, ℕ, List, [], ◌∷◌, ◌++◌, append_assoc, join_with_byte}
 
 -- two joined lists, with the byte between them, are all words joined
 pub join-append : (c : ℕ) (x : List ℕ) (xs : List (List ℕ)) (y : List ℕ) (ys : List (List ℕ)) → join_with_byte c ((x ∷ xs) ++ (y ∷ ys)) ≡ join_with_byte c (x ∷ xs) ++ (c ∷ join_with_byte c (y ∷ ys))

@@ -1,3 +1,4 @@
+mod Common
 pub mod Joins
 pub mod Printables
 pub mod Widths

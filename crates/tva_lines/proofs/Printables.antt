@@ -1,40 +1,13 @@
 -- The texts of a report have printable bytes alone.
-use Rattle.std.proofs.Common.{◌≡◌, inl, inr, ℕ, zero, suc, ◌+◌, ◌/◌, ◌%◌, ◌<◌, ◌≤◌, Bool, true, false, cond, List, [], ◌∷◌, ◌++◌, map, Option, Some, None, refl, ap, arith}
-use Rattle.std.specs.Prelude.{◌==◌, ◌&&◌, ◌||◌, nat_le, codes, decimal, slice_get}
-use Rattle.std.specs.Option.{option_map_or}
-use Rattle.std.specs.List.{All, AllByRecursion, join_with_byte, list_all}
+use Rattle.tva_lines.proofs.Common.{◌≡◌, inl, inr, ℕ, zero, suc, ◌+◌, ◌/◌, ◌%◌, ◌<◌, ◌≤◌, Bool, true, false, cond, List, [], ◌∷◌, ◌++◌, map, Option, Some, None, refl, ap, arith, ◌==◌, ◌&&◌, ◌||◌, nat_le, codes, decimal, slice_get, option_map_or, All, AllByRecursion, join_with_byte, list_all, All-append, All-cons, All-head, All-nil, All-tail, PacketId, Class, Cause, DropCause, Outcome, Queued, Dropped, ShapeKind, WhatKind, BackKind, Event, Happened, Arrived, Sent, Received, Started, Ticked, ReplyLine, DataLine, Totals, LinkPlan, IsPrintable, Config, NodePlan, is_name_byte, name_at, IsConfig, IsName, class_word, cause_word, drop_word, shape_word, what_word, back_word, name_of_node, name_before, name_behind, id_word, from_word, outcome_word, cause_or_dash, reply_word, range_words, happened_words, text_of_event, text_of_totals}
 use Rattle.std.proofs.lemmas.Bool.{and_parts, eqb-true, le-leb, leb-true, or_cases}
-use Rattle.std.proofs.lemmas.List.Elements.{All-append, All-cons, All-head, All-nil, All-tail}
 use Rattle.std.specs.Fmt.{digit_glyph, digits, digits_onto}
-use Rattle.tva_base.specs.declared.packet.PacketId.{PacketId}
-use Rattle.tva_base.specs.declared.packet.Class.{Class}
 use Rattle.tva_base.specs.declared.packet.Class.TheVariants as class
-use Rattle.tva_base.specs.declared.packet.Cause.{Cause}
 use Rattle.tva_base.specs.declared.packet.Cause.TheVariants as cause
-use Rattle.tva_base.specs.declared.packet.DropCause.{DropCause}
 use Rattle.tva_base.specs.declared.packet.DropCause.TheVariants as drop
-use Rattle.tva_base.specs.declared.packet.Outcome.{Outcome}
-use Rattle.tva_base.specs.declared.packet.Outcome.TheVariants.{Queued, Dropped}
-use Rattle.tva_base.specs.declared.event.ShapeKind.{ShapeKind}
 use Rattle.tva_base.specs.declared.event.ShapeKind.TheVariants as shape
-use Rattle.tva_base.specs.declared.event.WhatKind.{WhatKind}
 use Rattle.tva_base.specs.declared.event.WhatKind.TheVariants as what
-use Rattle.tva_base.specs.declared.event.BackKind.{BackKind}
 use Rattle.tva_base.specs.declared.event.BackKind.TheVariants as back
-use Rattle.tva_base.specs.declared.event.Event.{Event}
-use Rattle.tva_base.specs.declared.event.Happened.{Happened}
-use Rattle.tva_base.specs.declared.event.Happened.TheVariants.{Arrived, Sent, Received, Started, Ticked}
-use Rattle.tva_base.specs.declared.event.ReplyLine.{ReplyLine}
-use Rattle.tva_base.specs.declared.event.DataLine.{DataLine}
-use Rattle.tva_base.specs.declared.event.Totals.{Totals}
-use Rattle.tva_base.specs.declared.plan.LinkPlan.{LinkPlan}
-use Rattle.tva_base.specs.Printable.{IsPrintable}
-use Rattle.tva_plan.specs.declared.config.Config.{Config}
-use Rattle.tva_plan.specs.declared.config.NodePlan.{NodePlan}
-use Rattle.tva_plan.specs.Names.{is_name_byte, name_at}
-use Rattle.tva_plan.specs.Valid.{IsConfig, IsName}
-use Rattle.tva_lines.specs.Words.{class_word, cause_word, drop_word, shape_word, what_word, back_word}
-use Rattle.tva_lines.specs.Lines.{name_of_node, name_before, name_behind, id_word, from_word, outcome_word, cause_or_dash, reply_word, range_words, happened_words, text_of_event, text_of_totals}
 
 abbrev IsPlain : List ℕ → Type 0
 IsPlain text = All IsPrintable text

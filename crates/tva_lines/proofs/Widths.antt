@@ -1,39 +1,13 @@
 -- The texts of a report are short.
-use Rattle.std.proofs.Common.{ℕ, zero, suc, ◌+◌, ◌^◌, ◌<◌, ◌≤◌, List, [], ◌∷◌, ◌++◌, length, map, Option, Some, None, arith, length-append}
-use Rattle.std.specs.Prelude.{All, codes, decimal, slice_get}
-use Rattle.std.specs.Option.{option_map_or}
-use Rattle.std.specs.List.{join_with_byte}
+use Rattle.tva_lines.proofs.Common.{ℕ, zero, suc, ◌+◌, ◌^◌, ◌<◌, ◌≤◌, List, [], ◌∷◌, ◌++◌, length, map, Option, Some, None, arith, length-append, codes, decimal, slice_get, option_map_or, join_with_byte, All-head, All-tail, PacketId, Class, Cause, DropCause, Outcome, Queued, Dropped, ShapeKind, WhatKind, BackKind, Event, Happened, Arrived, Sent, Received, Started, Ticked, ReplyLine, DataLine, Totals, LinkPlan, IsLine, Config, NodePlan, name_at, IsConfig, IsName, class_word, drop_word, shape_word, what_word, back_word, FitsEvent, FitsHappened, FitsId, FitsRange, FitsReply, FitsTotals, name_of_node, name_before, name_behind, id_word, from_word, outcome_word, cause_or_dash, reply_word, range_words, happened_words, text_of_event, text_of_totals}
+use Rattle.std.specs.Prelude.{All}
 use Rattle.std.proofs.lemmas.Fmt.{length-decimal-le}
-use Rattle.std.proofs.lemmas.List.Elements.{All-head, All-tail}
-use Rattle.tva_base.specs.declared.packet.PacketId.{PacketId}
-use Rattle.tva_base.specs.declared.packet.Class.{Class}
 use Rattle.tva_base.specs.declared.packet.Class.TheVariants as class
-use Rattle.tva_base.specs.declared.packet.Cause.{Cause}
 use Rattle.tva_base.specs.declared.packet.Cause.TheVariants as cause
-use Rattle.tva_base.specs.declared.packet.DropCause.{DropCause}
 use Rattle.tva_base.specs.declared.packet.DropCause.TheVariants as drop
-use Rattle.tva_base.specs.declared.packet.Outcome.{Outcome}
-use Rattle.tva_base.specs.declared.packet.Outcome.TheVariants.{Queued, Dropped}
-use Rattle.tva_base.specs.declared.event.ShapeKind.{ShapeKind}
 use Rattle.tva_base.specs.declared.event.ShapeKind.TheVariants as shape
-use Rattle.tva_base.specs.declared.event.WhatKind.{WhatKind}
 use Rattle.tva_base.specs.declared.event.WhatKind.TheVariants as what
-use Rattle.tva_base.specs.declared.event.BackKind.{BackKind}
 use Rattle.tva_base.specs.declared.event.BackKind.TheVariants as back
-use Rattle.tva_base.specs.declared.event.Event.{Event}
-use Rattle.tva_base.specs.declared.event.Happened.{Happened}
-use Rattle.tva_base.specs.declared.event.Happened.TheVariants.{Arrived, Sent, Received, Started, Ticked}
-use Rattle.tva_base.specs.declared.event.ReplyLine.{ReplyLine}
-use Rattle.tva_base.specs.declared.event.DataLine.{DataLine}
-use Rattle.tva_base.specs.declared.event.Totals.{Totals}
-use Rattle.tva_base.specs.declared.plan.LinkPlan.{LinkPlan}
-use Rattle.tva_base.specs.Printable.{IsLine}
-use Rattle.tva_plan.specs.declared.config.Config.{Config}
-use Rattle.tva_plan.specs.declared.config.NodePlan.{NodePlan}
-use Rattle.tva_plan.specs.Names.{name_at}
-use Rattle.tva_plan.specs.Valid.{IsConfig, IsName}
-use Rattle.tva_lines.specs.Words.{class_word, drop_word, shape_word, what_word, back_word}
-use Rattle.tva_lines.specs.Lines.{FitsEvent, FitsHappened, FitsId, FitsRange, FitsReply, FitsTotals, name_of_node, name_before, name_behind, id_word, from_word, outcome_word, cause_or_dash, reply_word, range_words, happened_words, text_of_event, text_of_totals}
 use Rattle.tva_lines.proofs.Printables.{event_printable, totals_printable}
 
 -- ---- words

@@ -1,11 +1,5 @@
 -- Sums with events more.
-use Rattle.std.proofs.Common.{◌≡◌, ℕ, ◌+◌, ◌<◌, cond, List, [], ◌∷◌, ◌++◌, length, get_or, take, sym, ◌∙◌, ap}
-use Rattle.std.proofs.lemmas.List.{take_more, length_push, append_assoc}
-use Rattle.std.proofs.lemmas.List.Sums.{sum_by_push}
-use Rattle.tva_base.specs.declared.event.Event.{Event}
-use Rattle.tva_base.specs.declared.event.Totals.{Totals}
-use Rattle.tva_run.specs.Report.{is_routed, is_charged, is_demoted, is_dropped, is_started, is_received, received_bytes, totals_of}
-use Rattle.tva_net.specs.Sums.{with_event}
+use Rattle.tva_net.proofs.Common.{◌≡◌, ℕ, ◌+◌, ◌<◌, cond, List, [], ◌∷◌, ◌++◌, length, get_or, take, sym, ◌∙◌, ap, take_more, length_push, append_assoc, sum_by_push, Event, Totals, is_routed, is_charged, is_demoted, is_dropped, is_started, is_received, received_bytes, totals_of, with_event}
 
 -- one event more
 pub adds_one : (told : List Event) (e : Event) → with_event (totals_of told) e.happened ≡ totals_of (told ++ e ∷ [])

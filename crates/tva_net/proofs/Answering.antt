@@ -1,20 +1,10 @@
 -- What the answers of a network say.
-use Rattle.std.proofs.Common.{Vec, Global, Result, Ok, Err, IfOk, IfErr, ◌≡◌, ℕ, ◌+◌, ◌<◌, ◌≤◌, List, ◌++◌, length, Some, None, refl, sym, subst, ◌∙◌, ap, arith, length-append}
-use Rattle.tva_base.specs.declared.event.Event.{Event}
-use Rattle.tva_base.specs.declared.event.Totals.{Totals}
-use Rattle.tva_plan.specs.declared.config.Config.{Config}
-use Rattle.tva_rows.specs.declared.rows.Row.{Row}
-use Rattle.tva_run.specs.Report.{totals_of}
-use Rattle.tva_run.specs.Windows.{Window, given}
-use Rattle.tva_net.specs.Sums.{AreWithin}
-use Rattle.tva_net.specs.Nets.{HasGiven, NetState}
-use Rattle.tva_net.specs.Kept.{WorksFor}
+use Rattle.tva_net.proofs.Common.{Vec, Global, Result, Ok, Err, IfOk, IfErr, ◌≡◌, ℕ, ◌+◌, ◌<◌, ◌≤◌, List, ◌++◌, length, Some, None, refl, sym, subst, ◌∙◌, ap, arith, length-append, Event, Totals, Config, Row, totals_of, Window, given, AreWithin, HasGiven, NetState, WorksFor, CanWork, WorksUpTo}
 use Rattle.tva_net.specs.Steps.{Gives, GoesOn, HasEnded, IsSound, PassesLimit, Refuses, StandsFor}
 use Rattle.tva_net.specs.declared.kinds.NetError.{NetError}
 use Rattle.tva_net.specs.declared.kinds.NetError.TheVariants.{EventLimit}
 use Rattle.tva_net.specs.declared.kinds.Window as answers
 use Rattle.tva_net.specs.declared.kinds.Window.TheVariants.{Events}
-use Rattle.tva_net.specs.Work.{CanWork, WorksUpTo}
 use Rattle.tva_net.proofs.Given.{if_some_is}
 
 works_of : (config : Config) (rows : List Row) (windows : List Window) (told : List Event) (net : NetState) → StandsFor config rows windows told net → WorksFor config rows windows told net.work

@@ -1,34 +1,6 @@
 -- What a network stands for before its first window.
-use Rattle.std.proofs.Common.{◌≡◌, ℕ, zero, suc, ◌+◌, ◌<◌, List, [], ◌∷◌, length, get_or, map, filter, Bool, true, false, cond, Option, Some, None, All, refl, sym, subst, ◌∙◌, ap, arith}
-use Rattle.std.specs.Prelude.{◌==◌, slice_get}
-use Rattle.std.specs.Option.{option_map_or}
-use Rattle.std.specs.List.{AllByRecursion}
-use Rattle.std.proofs.lemmas.Bool.{eq-eqb, ne_eqb}
-use Rattle.std.proofs.lemmas.List.{length-map}
-use Rattle.std.proofs.lemmas.List.Elements.{All-head, All-tail}
-use Rattle.tva_base.specs.declared.event.Totals.{Totals}
-use Rattle.tva_base.specs.declared.plan.LinkPlan.{LinkPlan}
-use Rattle.tva_plan.specs.declared.config.Config.{Config}
-use Rattle.tva_plan.specs.Valid.{IsConfig}
-use Rattle.tva_rows.specs.declared.rows.Row.{Row}
-use Rattle.tva_rows.specs.Valid.{AreTraceRows, IsRow}
-use Rattle.tva_log.specs.Joins.{from_source}
-use Rattle.tva_log.proofs.Joins.{cut-early, cut-zero, each-filter, each-weaker, filter-all, filter-none}
-use Rattle.tva_log.specs.declared.kinds.Input.{Input}
-use Rattle.tva_log.specs.declared.kinds.Input.TheVariants.{FromTrace}
-use Rattle.tva_log.specs.Sites.{Site}
-use Rattle.tva_log.specs.Entries.{Entry, input_time, input_source, entry_time}
-use Rattle.tva_log.specs.NodeLog.{due}
-use Rattle.tva_log.specs.Told.{events}
-use Rattle.tva_node.specs.States.{NodeState, StandsFor}
-use Rattle.tva_run.specs.Reaching.{Logs, log_at, arrivals, arrivals_at, reaches, rows_at, site_at}
-use Rattle.tva_run.specs.Report.{AreEvents, totals_of}
-use Rattle.tva_run.specs.Run.{HasLog, IsRunTo}
-use Rattle.tva_run.specs.Windows.{window_length}
-use Rattle.tva_net.specs.Built.{AreFirstNodes}
-use Rattle.tva_net.specs.Kept.{IsNodeAt, WorksFor}
-use Rattle.tva_net.specs.Nets.{HasGiven}
-use Rattle.tva_mail.proofs.Lists.{each_map}
+use Rattle.tva_net.proofs.Common.{◌≡◌, ℕ, zero, suc, ◌+◌, ◌<◌, List, [], ◌∷◌, length, get_or, map, filter, Bool, true, false, cond, Option, Some, None, All, refl, sym, subst, ◌∙◌, ap, arith, ◌==◌, slice_get, option_map_or, AllByRecursion, eq-eqb, ne_eqb, length-map, All-head, All-tail, Totals, LinkPlan, Config, IsConfig, Row, AreTraceRows, IsRow, from_source, cut-early, cut-zero, each-filter, each-weaker, filter-all, filter-none, Input, FromTrace, Site, Entry, input_time, input_source, entry_time, due, events, NodeState, StandsFor, Logs, log_at, arrivals, arrivals_at, reaches, rows_at, site_at, AreEvents, totals_of, HasLog, IsRunTo, window_length, AreFirstNodes, IsNodeAt, WorksFor, HasGiven}
+use Rattle.tva_net.proofs.PostedLists.{each_map}
 use Rattle.tva_net.proofs.Standing.{tell_of}
 
 -- ## logs with nothing in them

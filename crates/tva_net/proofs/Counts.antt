@@ -1,14 +1,5 @@
 -- How many rows each node has, one row after another.
-use Rattle.std.proofs.Common.{◌≡◌, ℕ, ◌+◌, ◌<◌, Bool, true, false, cond, List, [], ◌∷◌, ◌++◌, length, get_or, set, map, filter, take, refl, sym, subst, ◌∙◌, ap, arith, inl, inr, length-append, add-zero}
-use Rattle.std.specs.Prelude.{◌==◌}
-use Rattle.std.proofs.lemmas.Bool.{cases_eq, cond-true, cond-false, eq-eqb, ne_eqb}
-use Rattle.std.proofs.lemmas.List.{get_or-set_other, get_or-set_same, length-set, map-append, take_more}
-use Rattle.std.proofs.lemmas.List.Elements.{filter-append}
-use Rattle.tva_rows.specs.declared.rows.Row.{Row}
-use Rattle.tva_log.specs.declared.kinds.Input.{Input}
-use Rattle.tva_log.specs.declared.kinds.Input.TheVariants.{FromTrace}
-use Rattle.tva_run.specs.Reaching.{rows_at}
-use Rattle.tva_net.specs.Built.{AreRowCounts}
+use Rattle.tva_net.proofs.Common.{◌≡◌, ℕ, ◌+◌, ◌<◌, Bool, true, false, cond, List, [], ◌∷◌, ◌++◌, length, get_or, set, map, filter, take, refl, sym, subst, ◌∙◌, ap, arith, inl, inr, length-append, add-zero, ◌==◌, cases_eq, cond-true, cond-false, eq-eqb, ne_eqb, get_or-set_other, get_or-set_same, length-set, map-append, take_more, filter-append, Row, Input, FromTrace, rows_at, AreRowCounts}
 
 one_row : (row : Row) (b : Bool) → length (map FromTrace (cond b (row ∷ []) [])) ≡ cond b 1 0
 one_row row true = refl

@@ -1,9 +1,6 @@
 -- The least delay.
-use Rattle.std.proofs.Common.{◌≡◌, ℕ, ◌+◌, ◌-◌, ◌<◌, List, [], ◌∷◌, ◌++◌, length, get_or, take, drop, refl, sym, subst, ◌∙◌, ap, arith, add-one}
+use Rattle.tva_net.proofs.Common.{◌≡◌, ℕ, ◌+◌, ◌-◌, ◌<◌, List, [], ◌∷◌, ◌++◌, length, get_or, take, drop, refl, sym, subst, ◌∙◌, ap, arith, add-one, take_more, take_rest, length-drop, get_or-drop, LinkPlan, least_delay}
 use Rattle.std.specs.Prelude.{min}
-use Rattle.std.proofs.lemmas.List.{take_more, take_rest, length-drop, get_or-drop}
-use Rattle.tva_base.specs.declared.plan.LinkPlan.{LinkPlan}
-use Rattle.tva_run.specs.Windows.{least_delay}
 
 least_more : (none : ℕ) (x : LinkPlan) (xs : List LinkPlan) (y : LinkPlan) → least_delay none (x ∷ (xs ++ y ∷ [])) ≡ min (least_delay none (x ∷ xs)) y.delay
 least_more none x [] y = refl

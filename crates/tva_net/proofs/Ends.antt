@@ -1,25 +1,6 @@
 -- What the steps of a window ask and leave.
-use Rattle.std.proofs.Common.{Vec, Global, Result, Ok, Err, IfOk, Option, ◌≡◌, ℕ, ◌+◌, ◌<◌, ◌≤◌, min, List, [], ◌∷◌, ◌++◌, length, get_or, Some, None, All, refl, sym, subst, ◌∙◌, ap, arith}
-use Rattle.std.specs.Prelude.{flat_map}
-use Rattle.std.specs.List.{AllByRecursion, AllZip}
-use Rattle.std.specs.Option.{option_map}
-use Rattle.std.proofs.lemmas.List.{append-nil, append_assoc}
-use Rattle.std.proofs.lemmas.List.Elements.{recursion_from_All}
-use Rattle.tva_base.specs.declared.event.Event.{Event}
-use Rattle.tva_base.specs.declared.packet.Time.{Time}
-use Rattle.tva_plan.specs.declared.config.Config.{Config}
-use Rattle.tva_rows.specs.declared.rows.Row.{Row}
-use Rattle.tva_node.specs.States.{Keeps, NodeState, Stands, unsent}
-use Rattle.tva_node.proofs.Zips.{begins_more, begins_same}
-use Rattle.tva_run.specs.Reaching.{log_at}
-use Rattle.tva_run.specs.Windows.{Window, given}
-use Rattle.tva_mail.specs.Mail.{IsPostable, KeepsWork}
-use Rattle.tva_mail.specs.News.{HasNoNews, IsFirstTime}
-use Rattle.tva_net.specs.Kept.{WorksFor}
-use Rattle.tva_net.specs.Nets.{GrowsFrom, IsWholeRun, WorkState}
-use Rattle.tva_mail.specs.Places.{AreQuietElsewhere, IsElsewhere}
-use Rattle.tva_net.specs.Work.{AddsNothing, AddsWindow, AddsWindows, AreWorked, CanGoTo, CanWork, EndsWindow, IsThrough, OfEachRun, WorksOn, WorksUpTo, if_some}
-use Rattle.tva_mail.proofs.Lists.{zip_length, zip_same, zip_weaker}
+use Rattle.tva_net.proofs.Common.{Vec, Global, Result, Ok, Err, IfOk, Option, ◌≡◌, ℕ, ◌+◌, ◌<◌, ◌≤◌, min, List, [], ◌∷◌, ◌++◌, length, get_or, Some, None, All, refl, sym, subst, ◌∙◌, ap, arith, flat_map, AllByRecursion, AllZip, option_map, append-nil, append_assoc, recursion_from_All, Event, Time, Config, Row, Keeps, NodeState, Stands, unsent, begins_more, begins_same, log_at, Window, given, IsPostable, KeepsWork, HasNoNews, IsFirstTime, WorksFor, GrowsFrom, IsWholeRun, WorkState, AreQuietElsewhere, IsElsewhere, AddsNothing, AddsWindow, AddsWindows, AreWorked, CanGoTo, CanWork, EndsWindow, IsThrough, OfEachRun, WorksOn, WorksUpTo, if_some}
+use Rattle.tva_net.proofs.PostedLists.{zip_length, zip_same, zip_weaker}
 use Rattle.tva_net.proofs.Lists.{zip_both}
 use Rattle.tva_net.proofs.Standing.{start_few, start_later, start_within, whole_run}
 use Rattle.tva_net.proofs.Windows as spans

@@ -1,31 +1,10 @@
 -- The nodes of a configuration, and that each row can be given to its node.
-use Rattle.std.proofs.Common.{◌≡◌, ℕ, ◌+◌, ◌<◌, ◌≤◌, Bool, true, false, cond, List, [], ◌∷◌, ◌++◌, length, get_or, map, filter, All, Option, Some, None, refl, sym, subst, ◌∙◌, ap, arith, inl, inr, suc, drop, drop-cons, add-one}
-use Rattle.std.specs.Prelude.{◌==◌, slice_get}
-use Rattle.std.specs.Option.{option_map, option_map_or}
-use Rattle.std.proofs.lemmas.Bool.{cases_lt}
-use Rattle.std.proofs.lemmas.List.{get_or_append_left, get_or_push}
-use Rattle.std.proofs.lemmas.List.Elements.{All-append, All-from_recursion}
-use Rattle.std.proofs.lemmas.Option.{slice_get_read}
-use Rattle.tva_base.specs.declared.plan.LinkPlan.{LinkPlan}
-use Rattle.tva_plan.specs.declared.config.Config.{Config}
-use Rattle.tva_plan.specs.declared.config.NodePlan.{NodePlan}
+use Rattle.tva_net.proofs.Common.{◌≡◌, ℕ, ◌+◌, ◌<◌, ◌≤◌, Bool, true, false, cond, List, [], ◌∷◌, ◌++◌, length, get_or, map, filter, All, Option, Some, None, refl, sym, subst, ◌∙◌, ap, arith, inl, inr, suc, drop, drop-cons, add-one, ◌==◌, slice_get, option_map, option_map_or, cases_lt, get_or_append_left, get_or_push, All-append, All-from_recursion, slice_get_read, LinkPlan, Config, NodePlan, IsConfig, Row, AreTraceRows, IsRow, IsRowWhat, Input, FromTrace, IsSite, Site, site_of, Memory, FitsRow, NodeState, links_out, rows_at, site_at, site_valid, CanDeliver, GotMails, mail_at, AreFirstNodes, IsFirstNode}
 use Rattle.tva_plan.specs.declared.config.NodePlan.TheVariants as plans
 use Rattle.tva_plan.specs.Names.{is_host, is_host_plan}
-use Rattle.tva_plan.specs.Valid.{IsConfig}
-use Rattle.tva_rows.specs.declared.rows.Row.{Row}
 use Rattle.tva_rows.specs.declared.rows.RowWhat.{RowWhat}
 use Rattle.tva_rows.specs.declared.rows.RowWhat.TheVariants as rows
-use Rattle.tva_rows.specs.Valid.{AreTraceRows, IsRow, IsRowWhat}
 use Rattle.tva_shim.proofs.Lengths.{carried_fits}
-use Rattle.tva_log.specs.declared.kinds.Input.{Input}
-use Rattle.tva_log.specs.declared.kinds.Input.TheVariants.{FromTrace}
-use Rattle.tva_log.specs.Sites.{IsSite, Site, site_of}
-use Rattle.tva_waiting.specs.declared.memory.Memory.{Memory}
-use Rattle.tva_node.specs.States.{FitsRow, NodeState}
-use Rattle.tva_run.specs.Reaching.{links_out, rows_at, site_at}
-use Rattle.tva_run.proofs.Sites.{site_valid}
-use Rattle.tva_mail.specs.Mail.{CanDeliver, GotMails, mail_at}
-use Rattle.tva_net.specs.Built.{AreFirstNodes, IsFirstNode}
 
 -- ## a node
 

@@ -1,18 +1,7 @@
 -- What is given of the windows so far, with one more.
-use Rattle.std.proofs.Common.{◌≡◌, ℕ, ◌<◌, ◌≤◌, List, [], ◌∷◌, ◌++◌, length, map, filter, Bool, true, false, refl, ◌∙◌, ap, ap₂, arith}
-use Rattle.std.specs.Prelude.{nat_lt, nat_le, ◌&&◌}
-use Rattle.std.specs.List.{AllByRecursion, flat_map}
-use Rattle.std.proofs.lemmas.Bool.{lt-ltb}
-use Rattle.std.proofs.lemmas.Bool.Decides.{nat_tests}
-use Rattle.std.proofs.lemmas.List.{append-nil, map-append}
-use Rattle.std.proofs.lemmas.List.Elements.{filter-append}
+use Rattle.tva_net.proofs.Common.{◌≡◌, ℕ, ◌<◌, ◌≤◌, List, [], ◌∷◌, ◌++◌, length, map, filter, Bool, true, false, refl, ◌∙◌, ap, ap₂, arith, nat_lt, nat_le, ◌&&◌, AllByRecursion, lt-ltb, nat_tests, append-nil, map-append, filter-append, Event, filter-true, filter-all, filter-none, each-weaker, each-both, event_time, Window, events_in, given, if_some}
+use Rattle.std.specs.List.{flat_map}
 use Rattle.std.proofs.lemmas.Grind.{flat_map-append}
-use Rattle.tva_base.specs.declared.event.Event.{Event}
-use Rattle.tva_log.proofs.Joins.{filter-true, filter-all, filter-none, each-weaker}
-use Rattle.tva_log.proofs.Putting.{each-both}
-use Rattle.tva_run.specs.Report.{event_time}
-use Rattle.tva_run.specs.Windows.{Window, events_in, given}
-use Rattle.tva_net.specs.Work.{if_some}
 
 is_in : (a b t : ℕ) → a ≤ t → t < b → (nat_le a t && nat_lt t b) ≡ true
 is_in a b t h k = grind (arith, nat_tests)

@@ -1,3 +1,4 @@
+mod Common
 pub mod Lists
 pub mod Nodes
 pub mod Resting
@@ -14,3 +15,12 @@ pub mod Worked
 pub mod Firsts
 pub mod Adding
 pub mod Counts
+pub mod PostedLists
+pub mod NodePlaces
+pub mod Mails
+pub mod Orders
+pub mod News
+pub mod Sorting
+pub mod Noted
+pub mod Forgotten
+pub mod Handed

@@ -1,13 +1,6 @@
 -- Lists, by what stands at each place, and what a list in order has from a time on.
-use Rattle.std.proofs.Common.{◌≡◌, ℕ, zero, suc, ◌+◌, ◌<◌, ◌≤◌, List, [], ◌∷◌, ◌++◌, length, get_or, drop, map, filter, Bool, Some, refl, sym, ◌∙◌, ap, arith, inl, inr}
-use Rattle.std.specs.Prelude.{◌==◌, nat_lt, slice_range, Contains}
-use Rattle.std.specs.List.{AllByRecursion, AllZip}
-use Rattle.std.proofs.lemmas.Bool.{lt-ltb, eq-eqb, cases_Bool, cases_lt}
-use Rattle.std.proofs.lemmas.List.{append_cancel_right, drop_more}
+use Rattle.tva_net.proofs.Common.{◌≡◌, ℕ, zero, suc, ◌+◌, ◌<◌, ◌≤◌, List, [], ◌∷◌, ◌++◌, length, get_or, drop, map, filter, Bool, Some, refl, sym, ◌∙◌, ap, arith, inl, inr, ◌==◌, nat_lt, slice_range, Contains, AllByRecursion, AllZip, lt-ltb, eq-eqb, cases_Bool, cases_lt, append_cancel_right, drop_more, IsInOrder, NeverFalls, cut, from_source, filter-true, filter-false, cut-late, each-filter, each_later, contains_cases, contains_first, contains_more}
 use Rattle.std.proofs.lemmas.List.Folds.{drop_split}
-use Rattle.tva_log.specs.Joins.{IsInOrder, NeverFalls, cut, from_source}
-use Rattle.tva_log.proofs.Joins.{filter-true, filter-false, cut-late, each-filter, each_later}
-use Rattle.tva_run.proofs.Next.{contains_cases, contains_first, contains_more}
 
 pub some_same : {X : Type 0} (x y : X) → Some x ≡ Some y → x ≡ y
 some_same x y e = cc

@@ -1,22 +1,6 @@
 -- A node of the network: what it was given joins what reaches it.
-use Rattle.std.proofs.Common.{◌≡◌, ℕ, ◌+◌, ◌<◌, ◌≤◌, List, [], map, Some, refl, sym, subst, ◌∙◌, ap, arith, inl, inr}
-use Rattle.std.specs.Prelude.{◌==◌, nat_lt, Contains}
-use Rattle.tva_plan.specs.declared.config.Config.{Config}
-use Rattle.tva_rows.specs.declared.rows.Row.{Row}
-use Rattle.tva_log.specs.Joins.{IsJoin, NeverFalls, from_source}
-use Rattle.tva_log.proofs.Joins.{filter_swap, in_order-filter, cut-cut}
-use Rattle.tva_log.proofs.Joined.{join-put_all}
-use Rattle.tva_log.specs.declared.kinds.Input.{Input}
-use Rattle.tva_log.specs.Entries.{Entry, input_time, input_source}
-use Rattle.tva_log.specs.NodeLog.{IsNodeLog, due, in_turn}
-use Rattle.tva_log.specs.Next.{IsWorkAt}
-use Rattle.tva_log.proofs.Logs.{IsNodeLog-same}
-use Rattle.tva_node.specs.States.{NodeState}
-use Rattle.tva_run.specs.Reaching.{Logs, log_at, site_at, reaches}
-use Rattle.tva_run.specs.Run.{HasLog}
-use Rattle.tva_run.specs.Windows.{HasWork, IsAtRest}
-use Rattle.tva_run.proofs.Next.{contains_filter}
-use Rattle.tva_run.proofs.Sites.{site_number}
+use Rattle.tva_net.proofs.Common.{◌≡◌, ℕ, ◌+◌, ◌<◌, ◌≤◌, List, [], map, Some, refl, sym, subst, ◌∙◌, ap, arith, inl, inr, ◌==◌, nat_lt, Contains, Config, Row, IsJoin, NeverFalls, from_source, filter_swap, in_order-filter, cut-cut, Input, Entry, input_time, input_source, IsNodeLog, due, in_turn, IsWorkAt, IsNodeLog-same, NodeState, Logs, log_at, site_at, reaches, HasLog, HasWork, IsAtRest, contains_filter, site_number}
+use Rattle.tva_run.proofs.Joined.{join-put_all}
 use Rattle.tva_net.proofs.Lists.{contains_from, never_falls-filter}
 
 abbrev nothing : ℕ → List Input

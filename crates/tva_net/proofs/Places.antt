@@ -1,12 +1,5 @@
 -- Places in their order: one more is put among them, and all of them.
-use Rattle.std.proofs.Common.{◌≡◌, ℕ, zero, suc, ◌+◌, ◌<◌, ◌≤◌, List, [], ◌∷◌, ◌++◌, length, get_or, ◌∙◌, arith, inl, inr}
-use Rattle.std.specs.List.{AllByRecursion, insert}
-use Rattle.std.proofs.lemmas.Bool.{cases_lt}
-use Rattle.std.proofs.lemmas.List.{get_or_default}
-use Rattle.std.proofs.lemmas.List.Elements.{All-from_recursion, recursion_from_All}
-use Rattle.tva_log.proofs.Joins.{each-append, each-weaker}
-use Rattle.tva_mail.specs.Places.{Rises}
-use Rattle.tva_net.specs.Work.{AreAllPlaces, IsPutAmong}
+use Rattle.tva_net.proofs.Common.{◌≡◌, ℕ, zero, suc, ◌+◌, ◌<◌, ◌≤◌, List, [], ◌∷◌, ◌++◌, length, get_or, ◌∙◌, arith, inl, inr, AllByRecursion, insert, cases_lt, get_or_default, All-from_recursion, recursion_from_All, each-append, each-weaker, Rises, AreAllPlaces, IsPutAmong}
 
 -- ## one more place
 

@@ -1,22 +1,9 @@
 -- A node that is worked up to a time from which on nothing is to be done up to another: it stands as if worked up to that.
-use Rattle.std.proofs.Common.{◌≡◌, ℕ, ◌+◌, ◌<◌, ◌≤◌, List, map, Option, Some, None, refl, sym, subst, ◌∙◌, ap, arith, inl, inr}
-use Rattle.std.specs.Prelude.{Contains, nat_lt}
-use Rattle.std.specs.Option.{option_and_then}
-use Rattle.std.proofs.lemmas.Bool.{cases_lt, lt-ltb}
-use Rattle.tva_base.specs.declared.limits.LinkLimits.{LinkLimits}
-use Rattle.tva_log.specs.declared.kinds.Input.{Input}
-use Rattle.tva_log.specs.Sites.{limits_out}
-use Rattle.tva_log.specs.Entries.{Entry, input_time}
-use Rattle.tva_log.specs.NodeLog.{IsNodeLog, due, in_turn}
-use Rattle.tva_log.specs.Next.{IsQuiet, IsWorkAt, next_decision, next_on}
-use Rattle.tva_log.specs.Parts.{port_logs}
-use Rattle.tva_log.proofs.Ports.{next_again, next_late}
-use Rattle.tva_node.specs.States.{NodeState, StandsFor}
+use Rattle.tva_net.proofs.Common.{◌≡◌, ℕ, ◌+◌, ◌<◌, ◌≤◌, List, map, Option, Some, None, refl, sym, subst, ◌∙◌, ap, arith, inl, inr, Contains, nat_lt, option_and_then, cases_lt, lt-ltb, LinkLimits, Input, limits_out, Entry, input_time, IsNodeLog, due, in_turn, IsQuiet, IsWorkAt, next_decision, next_on, port_logs, NodeState, StandsFor, legal, rests_until, contains_filter, contains_passes}
+use Rattle.tva_run.proofs.Ports.{next_again, next_late}
 use Rattle.tva_node.specs.Work.{IsNoneBefore, work_time}
 use Rattle.tva_node.proofs.Finding.{link_valid}
 use Rattle.tva_node.proofs.Posts.{work_some}
-use Rattle.tva_node.proofs.Works.{legal, rests_until}
-use Rattle.tva_run.proofs.Next.{contains_filter, contains_passes}
 
 -- inputs that agree before a time come alike before it
 pub comes_early : (until time : ℕ) (xs ys : List Input) → due until xs ≡ due until ys → time < until → Contains (map input_time xs) time → Contains (map input_time ys) time

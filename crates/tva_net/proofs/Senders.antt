@@ -1,31 +1,8 @@
 -- What the links of nodes send: each packet on a link out of its node, and when it arrives.
-use Rattle.std.proofs.Common.{◌≡◌, ℕ, zero, suc, ◌+◌, ◌*◌, ◌<◌, ◌≤◌, List, [], ◌∷◌, ◌++◌, length, get_or, map, filter, Bool, true, false, cond, Option, Some, None, refl, sym, subst, ◌∙◌, ap, ap₂, arith, inl, inr}
-use Rattle.std.specs.Prelude.{◌==◌, ◌&&◌, flat_map, nat_lt, nat_le, slice_get}
-use Rattle.std.specs.Option.{option_map, option_map_or, option_and_then}
-use Rattle.std.specs.List.{AllByRecursion, cons_option, find}
-use Rattle.std.proofs.lemmas.Bool.{cases_Bool, cases_eq, cond-true, cond-false, eqb-true, eq-eqb, ne_eqb, lt-ltb, le-ltb, cases_lt}
-use Rattle.std.proofs.lemmas.Bool.Decides.{nat_tests}
-use Rattle.std.proofs.lemmas.List.{append-nil}
-use Rattle.std.proofs.lemmas.List.Elements.{filter-append}
-use Rattle.tva_base.specs.declared.limits.LinkLimits.{LinkLimits}
+use Rattle.tva_net.proofs.Common.{◌≡◌, ℕ, zero, suc, ◌+◌, ◌*◌, ◌<◌, ◌≤◌, List, [], ◌∷◌, ◌++◌, length, get_or, map, filter, Bool, true, false, cond, Option, Some, None, refl, sym, subst, ◌∙◌, ap, ap₂, arith, inl, inr, ◌==◌, ◌&&◌, flat_map, nat_lt, nat_le, slice_get, option_map, option_map_or, option_and_then, AllByRecursion, cons_option, find, cases_Bool, cases_eq, cond-true, cond-false, eqb-true, eq-eqb, ne_eqb, lt-ltb, le-ltb, cases_lt, nat_tests, append-nil, filter-append, LinkLimits, LinkPlan, Config, NodePlan, from_source, filter-true, filter-false, filter-none, each-append, Input, Sending, Site, site_of, link_out, Entry, Took, Started, input_time, input_source, entry_time, GoesOn, due, start_after, port_logs, sendings, NodeState, unsent, arrival, link_from, links_out, site_at, goes_to, mail_to}
 use Rattle.tva_base.specs.declared.packet.Class.{Class}
-use Rattle.tva_base.specs.declared.plan.LinkPlan.{LinkPlan}
 use Rattle.tva_shim.specs.Packets.{PacketData, packet_length}
-use Rattle.tva_plan.specs.declared.config.Config.{Config}
-use Rattle.tva_plan.specs.declared.config.NodePlan.{NodePlan}
 use Rattle.tva_plan.specs.Wiring.{picked}
-use Rattle.tva_log.specs.Joins.{from_source}
-use Rattle.tva_log.proofs.Joins.{filter-true, filter-false, filter-none, each-append}
-use Rattle.tva_log.specs.declared.kinds.Input.{Input}
-use Rattle.tva_log.specs.declared.kinds.Sending.{Sending}
-use Rattle.tva_log.specs.Sites.{Site, site_of, link_out}
-use Rattle.tva_log.specs.Entries.{Entry, Took, Started, input_time, input_source, entry_time}
-use Rattle.tva_log.specs.NodeLog.{GoesOn, due, start_after}
-use Rattle.tva_log.specs.Parts.{port_logs}
-use Rattle.tva_log.specs.Told.{sendings}
-use Rattle.tva_node.specs.States.{NodeState, unsent}
-use Rattle.tva_run.specs.Reaching.{arrival, link_from, links_out, site_at}
-use Rattle.tva_mail.specs.Mail.{goes_to, mail_to}
 use Rattle.tva_net.proofs.Lists.{drop_none, some_same}
 
 -- ## the links out of a node

@@ -1,36 +1,7 @@
 -- What stands between two windows: the nodes by their places, and when there is nothing to do.
-use Rattle.std.proofs.Common.{◌≡◌, ℕ, suc, ◌+◌, ◌<◌, ◌≤◌, List, [], ◌∷◌, ◌++◌, length, get_or, Option, Some, None, All, refl, sym, subst, ◌∙◌, ap, arith, inl, inr}
-use Rattle.std.specs.Prelude.{slice_get}
-use Rattle.std.specs.Option.{option_map, option_map_or}
-use Rattle.std.specs.List.{AllByRecursion}
-use Rattle.std.proofs.lemmas.Option.{slice_get_cases, slice_get_within, get_or_from_slice_get}
-use Rattle.tva_base.specs.declared.event.Event.{Event}
-use Rattle.tva_base.specs.declared.packet.Time.{Time}
-use Rattle.tva_base.specs.declared.plan.LinkPlan.{LinkPlan}
-use Rattle.tva_plan.specs.declared.config.Config.{Config}
-use Rattle.tva_plan.specs.declared.config.NodePlan.{NodePlan}
-use Rattle.tva_plan.specs.Valid.{IsLinkPlan}
-use Rattle.tva_plan.proofs.Wired.{all_here}
-use Rattle.tva_rows.specs.declared.rows.Row.{Row}
-use Rattle.tva_log.specs.Sites.{Site, site_of}
-use Rattle.tva_log.specs.NodeLog.{in_turn}
-use Rattle.tva_log.specs.Next.{IsWorkAt}
-use Rattle.tva_log.specs.Legal.{AreShort}
-use Rattle.tva_log.specs.Told.{events}
-use Rattle.tva_log.proofs.Legal.{legal_short}
-use Rattle.tva_node.specs.States.{NodeState}
-use Rattle.tva_node.proofs.Works.{legal}
-use Rattle.tva_run.specs.Reaching.{Logs, log_at, links_out, site_at}
-use Rattle.tva_run.specs.Report.{events_at}
-use Rattle.tva_run.specs.Run.{IsRunTo}
-use Rattle.tva_run.specs.Windows.{AreFirstWindows, AreWindows, HasWork, IsAtRest, IsNextWindow, IsOver, Window, least_delay, window_length}
-use Rattle.tva_run.proofs.Going.{run_rests}
-use Rattle.tva_run.proofs.Next.{none_before}
-use Rattle.tva_run.proofs.Runs.{are_delayed}
-use Rattle.tva_mail.specs.News.{HasNone, IsFirstTime}
-use Rattle.tva_net.specs.Kept.{IsNodeAt, WorksFor}
-use Rattle.tva_net.specs.Nets.{ByPlace, IsWholeRun, TellOf, WorkState}
-use Rattle.tva_run.proofs.Reaches.{reaches_rise}
+use Rattle.tva_net.proofs.Common.{◌≡◌, ℕ, suc, ◌+◌, ◌<◌, ◌≤◌, List, [], ◌∷◌, ◌++◌, length, get_or, Option, Some, None, All, refl, sym, subst, ◌∙◌, ap, arith, inl, inr, slice_get, option_map, option_map_or, AllByRecursion, slice_get_cases, slice_get_within, get_or_from_slice_get, Event, Time, LinkPlan, Config, NodePlan, IsLinkPlan, all_here, Row, Site, site_of, in_turn, IsWorkAt, events, NodeState, legal, Logs, log_at, links_out, site_at, events_at, IsRunTo, AreFirstWindows, AreWindows, HasWork, IsAtRest, IsNextWindow, IsOver, Window, least_delay, window_length, run_rests, none_before, are_delayed, HasNone, IsFirstTime, IsNodeAt, WorksFor, ByPlace, IsWholeRun, TellOf, WorkState, reaches_rise}
+use Rattle.tva_run.specs.Legal.{AreShort}
+use Rattle.tva_run.proofs.Legal.{legal_short}
 use Rattle.tva_net.proofs.Lists.{some_same}
 use Rattle.tva_net.proofs.Nodes.{has_work, rests}
 use Rattle.tva_net.proofs.Resting.{work_back, work_then}

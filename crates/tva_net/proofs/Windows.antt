@@ -1,48 +1,8 @@
 -- A window keeps the run: what the nodes' logs add is the run's, and the inboxes have it all afterwards.
-use Rattle.std.proofs.Common.{◌≡◌, ℕ, zero, suc, ◌+◌, ◌<◌, ◌≤◌, min, List, [], ◌∷◌, ◌++◌, length, get_or, drop, map, filter, Bool, true, false, cond, Option, Some, None, All, refl, sym, subst, ◌∙◌, ap, ap₂, arith, inl, inr}
-use Rattle.std.specs.Prelude.{flat_map, slice_get, nat_lt, ◌==◌}
-use Rattle.std.specs.Option.{option_map, option_map_or}
-use Rattle.std.specs.List.{AllByRecursion, AllZip}
-use Rattle.std.proofs.lemmas.List.{append-nil, drop_at, map-append}
-use Rattle.std.proofs.lemmas.List.Elements.{filter-append, filter_map-append, All-from_recursion, AllZip-get_or}
-use Rattle.std.proofs.lemmas.Option.{slice_get_cases, slice_get_past, slice_get_within, get_or_from_slice_get}
-use Rattle.tva_base.specs.declared.event.Event.{Event}
-use Rattle.tva_base.specs.declared.packet.Time.{Time}
-use Rattle.tva_base.specs.declared.plan.LinkPlan.{LinkPlan}
-use Rattle.tva_plan.specs.declared.config.Config.{Config}
-use Rattle.tva_plan.specs.declared.config.NodePlan.{NodePlan}
-use Rattle.tva_plan.specs.Valid.{IsLinkPlan}
-use Rattle.tva_plan.proofs.Wired.{all_here}
-use Rattle.tva_rows.specs.declared.rows.Row.{Row}
-use Rattle.tva_log.specs.Joins.{IsJoin, cut, from_source}
-use Rattle.tva_log.proofs.Joins.{each-filter, each-weaker}
-use Rattle.tva_log.proofs.Putting.{cut-put_all, each_from_sources, put_all-append}
-use Rattle.tva_log.specs.declared.kinds.Input.{Input}
-use Rattle.tva_log.specs.declared.kinds.Sending.{Sending}
-use Rattle.tva_log.specs.Sites.{Site, link_out, site_of}
-use Rattle.tva_log.specs.Entries.{Entry, input_time, input_source, entry_time, entry_rank}
-use Rattle.tva_log.specs.NodeLog.{IsNodeLog, due, in_turn}
-use Rattle.tva_log.specs.Next.{IsQuiet, IsWorkAt}
-use Rattle.tva_log.specs.Told.{event_of, events, sending_of, sendings}
-use Rattle.tva_log.proofs.Logs.{IsNodeLog-unique}
-use Rattle.tva_node.specs.States.{Gone, Keeps, NodeState, Stands, StandsFor, news, unsent}
-use Rattle.tva_run.specs.Reaching.{Logs, log_at, arrival, arrival_of, arrivals, arrivals_at, links_out, reaches, rows_at, site_at}
-use Rattle.tva_run.specs.Report.{AreEvents, event_node, event_time, events_at}
-use Rattle.tva_run.specs.Run.{HasLog, IsRunTo, logs_before}
-use Rattle.tva_run.specs.Windows.{EachBeginsWith, IsNextWindow, Window, given, window_length}
-use Rattle.tva_run.proofs.Going.{events_added, least_delay-least, run_goes_on, same_before}
+use Rattle.tva_net.proofs.Common.{◌≡◌, ℕ, zero, suc, ◌+◌, ◌<◌, ◌≤◌, min, List, [], ◌∷◌, ◌++◌, length, get_or, drop, map, filter, Bool, true, false, cond, Option, Some, None, All, refl, sym, subst, ◌∙◌, ap, ap₂, arith, inl, inr, flat_map, slice_get, nat_lt, ◌==◌, option_map, option_map_or, AllByRecursion, AllZip, append-nil, drop_at, map-append, filter-append, filter_map-append, All-from_recursion, AllZip-get_or, slice_get_cases, slice_get_past, slice_get_within, get_or_from_slice_get, Event, Time, LinkPlan, Config, NodePlan, IsLinkPlan, all_here, Row, IsJoin, cut, from_source, each-filter, each-weaker, cut-put_all, each_from_sources, put_all-append, Input, Sending, Site, link_out, site_of, Entry, input_time, input_source, entry_time, entry_rank, IsNodeLog, due, in_turn, IsQuiet, IsWorkAt, event_of, events, sending_of, sendings, IsNodeLog-unique, Gone, Keeps, NodeState, Stands, StandsFor, news, unsent, Logs, log_at, arrival, arrival_of, arrivals, arrivals_at, links_out, reaches, rows_at, site_at, AreEvents, event_node, event_time, events_at, HasLog, IsRunTo, logs_before, EachBeginsWith, IsNextWindow, Window, given, window_length, events_added, least_delay-least, run_goes_on, same_before, window_next, log_at-before, link_out_is, sent_arrives, site_number, CanDeliver, GotMail, GotMails, IsPostable, goes_to, mail_to, HasNoNews, IsFirstTime, of_place, IsNodeAt, WorksFor, WorkState, reaches_rise, IsThrough, if_some}
 use Rattle.tva_run.proofs.Holding.{HappensAt, events_work}
-use Rattle.tva_run.proofs.Next.{window_next}
-use Rattle.tva_run.proofs.Runs.{log_at-before}
-use Rattle.tva_run.proofs.Sites.{link_out_is, sent_arrives, site_number}
-use Rattle.tva_mail.specs.Mail.{CanDeliver, GotMail, GotMails, IsPostable, goes_to, mail_to}
-use Rattle.tva_mail.specs.News.{HasNoNews, IsFirstTime, of_place}
-use Rattle.tva_mail.proofs.Places.{of_place_is}
-use Rattle.tva_net.specs.Kept.{IsNodeAt, WorksFor}
-use Rattle.tva_net.specs.Nets.{WorkState}
-use Rattle.tva_run.proofs.Reaches.{reaches_rise}
-use Rattle.tva_net.specs.Work.{IsThrough, if_some}
-use Rattle.tva_mail.proofs.Lists.{each_map, zip_length}
+use Rattle.tva_net.proofs.NodePlaces.{of_place_is}
+use Rattle.tva_net.proofs.PostedLists.{each_map, zip_length}
 use Rattle.tva_net.proofs.Lists.{some_same, split_at}
 use Rattle.tva_net.proofs.Given.{given_more, held_more}
 use Rattle.tva_net.proofs.Nodes.{has_log}

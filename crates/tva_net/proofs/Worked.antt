@@ -1,18 +1,8 @@
 -- Nodes that are worked up to a time, one after another or all at once.
-use Rattle.std.proofs.Common.{◌≡◌, ℕ, ◌-◌, ◌<◌, ◌≤◌, List, [], ◌∷◌, length, get_or, set, All, refl, sym, subst, ◌∙◌, ap, arith}
-use Rattle.std.specs.List.{AllByRecursion, AllZip, sum_by}
-use Rattle.std.proofs.lemmas.List.{get_or_default, get_or-set_other, length-set}
-use Rattle.std.proofs.lemmas.List.Elements.{All-from_recursion, All-head, All-set, All-tail, recursion_from_All}
-use Rattle.std.proofs.lemmas.List.Sums.{sum_by-set}
-use Rattle.tva_node.specs.States.{IsAdvanced, Keeps, NodeState, Stands}
-use Rattle.tva_node.proofs.Zips.{keeps_on, keeps_same}
-use Rattle.tva_mail.specs.News.{HasNoneBefore}
-use Rattle.tva_mail.specs.Places.{IsElsewhere, Rises}
-use Rattle.tva_net.specs.Work.{AreAllPlaces, AreThrough, CanGoTo, IsPutAmong, IsThrough, IsWorkedAt}
-use Rattle.tva_mail.specs.Times.{HasWorkBefore}
-use Rattle.tva_mail.proofs.Lists.{zip_same}
+use Rattle.tva_net.proofs.Common.{◌≡◌, ℕ, ◌-◌, ◌<◌, ◌≤◌, List, [], ◌∷◌, length, get_or, set, All, refl, sym, subst, ◌∙◌, ap, arith, AllByRecursion, AllZip, sum_by, get_or_default, get_or-set_other, length-set, All-from_recursion, All-head, All-set, All-tail, recursion_from_All, sum_by-set, IsAdvanced, Keeps, NodeState, Stands, keeps_on, keeps_same, HasNoneBefore, IsElsewhere, Rises, AreAllPlaces, AreThrough, CanGoTo, IsPutAmong, IsThrough, IsWorkedAt, HasWorkBefore}
+use Rattle.tva_net.proofs.PostedLists.{zip_same}
 use Rattle.tva_net.proofs.Lists.{zip_both}
-use Rattle.tva_mail.proofs.Mails.{zip_set}
+use Rattle.tva_net.proofs.Mails.{zip_set}
 
 -- ## what is kept
 

@@ -4,7 +4,7 @@ use Rattle.tva_plan.specs.declared.config.Config.{Config}
 use Rattle.tva_rows.specs.declared.rows.Row.{Row}
 use Rattle.tva_node.specs.States.{NodeState, Stands}
 use Rattle.tva_run.specs.Reaching.{rows_at, site_at}
-use Rattle.tva_mail.specs.News.{HasNoNews}
+use Rattle.tva_net.specs.News.{HasNoNews}
 
 -- the node of that number, with its rows of the trace, to which nothing happened yet
 pub record IsFirstNode (config : Config) (rows : List Row) (number : ℕ) (v : NodeState) : Type 0 where

@@ -4,18 +4,18 @@ use Rattle.std.specs.Prelude.{Some, None}
 use Rattle.tva_base.specs.declared.event.Event.{Event}
 use Rattle.tva_plan.specs.declared.config.Config.{Config}
 use Rattle.tva_rows.specs.declared.rows.Row.{Row}
-use Rattle.tva_log.specs.Joins.{from_source}
-use Rattle.tva_log.specs.Entries.{input_source}
-use Rattle.tva_log.specs.NodeLog.{due, in_turn}
-use Rattle.tva_log.specs.Next.{IsQuiet}
+use Rattle.tva_run.specs.Joins.{from_source}
+use Rattle.tva_run.specs.Entries.{input_source}
+use Rattle.tva_run.specs.NodeLog.{due, in_turn}
+use Rattle.tva_run.specs.Next.{IsQuiet}
 use Rattle.tva_run.specs.Reaching.{Logs, log_at, site_at, reaches}
 use Rattle.tva_run.specs.Windows.{Window, window_length}
 use Rattle.tva_node.specs.States.{NodeState}
 use Rattle.tva_node.specs.States as states
-use Rattle.tva_mail.specs.News.{HasNoNews}
+use Rattle.tva_net.specs.News.{HasNoNews}
 use Rattle.tva_net.specs.declared.parts.Parts.{Parts}
 use Rattle.tva_net.specs.declared.works.Works.{Works}
-use Rattle.tva_mail.specs.Times.{AreNoted}
+use Rattle.tva_net.specs.Times.{AreNoted}
 use Rattle.tva_net.specs.Nets.{ByPlace, IsUnderWay, NetState, WorkState}
 
 -- a node at work in the network: it is worked up to a time from which on nothing is to be done up to that one, and has

@@ -4,3 +4,8 @@ pub mod Sums
 pub mod Built
 pub mod Kept
 pub mod Work
+pub mod News
+pub mod Places
+pub mod Times
+pub mod Mail
+pub mod Handing

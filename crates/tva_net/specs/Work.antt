@@ -7,13 +7,13 @@ use Rattle.tva_base.specs.declared.packet.Time.{Time}
 use Rattle.tva_base.specs.declared.plan.LinkPlan.{LinkPlan}
 use Rattle.tva_plan.specs.declared.config.Config.{Config}
 use Rattle.tva_rows.specs.declared.rows.Row.{Row}
-use Rattle.tva_log.specs.Joins.{IsJoin}
+use Rattle.tva_run.specs.Joins.{IsJoin}
 use Rattle.tva_run.specs.Report.{event_time, event_node}
 use Rattle.tva_run.specs.Windows.{Window, given}
 use Rattle.tva_node.specs.States.{IsAdvanced, Keeps, NodeState, Stands, news, unsent}
-use Rattle.tva_mail.specs.Mail.{GotMails, mail_to}
-use Rattle.tva_mail.specs.News.{HasNoneBefore, HasNoNews, IsFirstTime, of_place}
-use Rattle.tva_mail.specs.Places.{ArePlaces, IsElsewhere, Rises}
+use Rattle.tva_net.specs.Mail.{GotMails, mail_to}
+use Rattle.tva_net.specs.News.{HasNoneBefore, HasNoNews, IsFirstTime, of_place}
+use Rattle.tva_net.specs.Places.{ArePlaces, IsElsewhere, Rises}
 use Rattle.tva_net.specs.Kept.{WorksFor}
 use Rattle.tva_net.specs.Nets.{IsWholeRun, WorkState}
 

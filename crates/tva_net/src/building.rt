@@ -4,9 +4,9 @@ ghost use Rattle.std.specs.List.{AllZip};
 ghost use Rattle.tva_plan.specs.Valid.{IsConfig};
 ghost use Rattle.tva_rows.specs.Valid.{AreTraceRows};
 ghost use Rattle.tva_rows.specs.declared.rows.Row.{Row};
-ghost use Rattle.tva_log.specs.declared.kinds.Input.TheVariants.{FromTrace};
+ghost use Rattle.tva_run.specs.declared.kinds.Input.TheVariants.{FromTrace};
 ghost use Rattle.tva_run.specs.Reaching.{links_out, rows_at};
-ghost use Rattle.tva_mail.specs.Mail.{CanDeliver, GotMails, KeepsWork, mail_at};
+ghost use Rattle.tva_net.specs.Mail.{CanDeliver, GotMails, KeepsWork, mail_at};
 ghost use Rattle.tva_net.specs.Built.{AreFirstNodes, AreRowCounts, IsFirstNode};
 
 use std::alloc::{AllocError, Global};

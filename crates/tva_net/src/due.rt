@@ -2,14 +2,14 @@
 ghost use Rattle.std.specs.Prelude.{◌≡◌, ◌<◌, ◌≤◌, All, IfOk, OnOk, length, slice_index_or};
 ghost use Rattle.std.specs.List.{AllByRecursion, AllZip};
 ghost use Rattle.tva_node.specs.States.{Keeps, NodeState, Stands};
-ghost use Rattle.tva_mail.specs.Places.{Rises};
+ghost use Rattle.tva_net.specs.Places.{Rises};
 ghost use Rattle.tva_net.specs.Work.{AreAllPlaces, AreThrough, CanGoTo, IsPutAmong, IsWorkedAt};
-ghost use Rattle.tva_mail.specs.Times.{AreNoted};
+ghost use Rattle.tva_net.specs.Times.{AreNoted};
 
+use crate::{due_before, note};
 use std::alloc::{AllocError, Global};
 use tva_base::Time;
 use tva_index::Lowest;
-use tva_mail::{due_before, note};
 use tva_node::Node;
 
 /// Works the nodes that have work before a time, in nanoseconds, one after another, and gives their

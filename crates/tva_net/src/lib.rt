@@ -8,15 +8,21 @@
 
 mod building;
 mod due;
+mod gathering;
 mod kinds;
 mod net;
 mod pace;
 mod parts;
+mod posting;
 mod sums;
+mod times;
 mod timing;
 mod works;
 
+pub use gathering::gather;
 pub use kinds::{NetError, Window};
 pub use net::Net;
-pub use tva_log::{Input, Sending};
+pub use posting::post_beside;
+pub use times::{due_before, first_time, note, note_all, times_of};
 pub use tva_node::{Memory, Node, advance_all};
+pub use tva_run::{Input, Sending};

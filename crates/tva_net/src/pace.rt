@@ -2,15 +2,15 @@
 ghost use Rattle.std.specs.Prelude.{◌≤◌, All, IfOk, OnOk, length};
 ghost use Rattle.std.specs.List.{AllByRecursion, AllZip};
 ghost use Rattle.tva_node.specs.States.{Keeps, Stands};
-ghost use Rattle.tva_mail.specs.Times.{AreNoted};
+ghost use Rattle.tva_net.specs.Times.{AreNoted};
 ghost use Rattle.tva_net.specs.Work.{AreThrough, CanGoTo};
 
 use crate::due::{all_places, work_due};
+use crate::note_all;
 use std::alloc::{AllocError, Global};
 use std::thread::Threads;
 use tva_base::Time;
 use tva_index::Lowest;
-use tva_mail::note_all;
 use tva_node::{Node, work_parts};
 use tva_outside::Gate;
 

@@ -1,21 +1,7 @@
 -- The link that decides first, by its key; and those that have nothing to do before it decides.
-use Rattle.std.proofs.Common.{◌≡◌, ℕ, zero, suc, ◌+◌, ◌-◌, ◌<◌, ◌≤◌, min, true, false, List, [], ◌∷◌, length, get_or, map, set, take, drop, All, Option, Some, None, refl, sym, subst, ◌∙◌, ap, arith, inl, inr}
-use Rattle.std.specs.Prelude.{◌==◌, IfSome}
-use Rattle.std.proofs.lemmas.Bool.{cases_eq, cases_lt, cond-true, cond-false, eq-eqb, ne_eqb, leb-false}
-use Rattle.std.proofs.lemmas.Bool.Decides.{nat_tests}
-use Rattle.std.proofs.lemmas.List.{get_or_default, get_or-drop, get_or-set_other, get_or-set_same, get_or-take, length-drop, length-map, length-set, length-take}
-use Rattle.std.proofs.lemmas.List.Elements.{All-head, All-map, All-tail, All-weaker}
-use Rattle.tva_base.specs.declared.plan.LinkPlan.{LinkPlan}
-use Rattle.tva_base.specs.Plan.{links_of}
+use Rattle.tva_node.proofs.Common.{◌≡◌, ℕ, zero, suc, ◌+◌, ◌-◌, ◌<◌, ◌≤◌, min, true, false, List, [], ◌∷◌, length, get_or, map, set, take, drop, All, Option, Some, None, refl, sym, subst, ◌∙◌, ap, arith, inl, inr, ◌==◌, IfSome, cases_eq, cases_lt, cond-true, cond-false, eq-eqb, ne_eqb, leb-false, nat_tests, get_or_default, get_or-drop, get_or-set_other, get_or-set_same, get_or-take, length-drop, length-map, length-take, All-head, All-map, All-tail, All-weaker, LinkPlan, links_of, AreRising, limits_out, late_on, Link, AreKeys, AreNoKeys, IsFirstAsked, IsKey, IsRankOf, asked_by, first_link, is_asked, least_next, sooner, with_next, link_pair, KnowsNext, NodeState, DecidesAt}
+use Rattle.std.proofs.lemmas.List.{length-set}
 use Rattle.tva_index.specs.Lowest.{IsLeastPlace}
-use Rattle.tva_log.specs.Sites.{AreRising, limits_out}
-use Rattle.tva_log.proofs.Quiet.{late_on}
-use Rattle.tva_node.specs.declared.links.Link.{Link}
-use Rattle.tva_node.specs.Links.{AreKeys, AreNoKeys, IsFirstAsked, IsKey, IsRankOf, asked_by, first_link, is_asked, least_next, sooner, with_next}
-use Rattle.tva_node.specs.Pairs.{link_pair}
-use Rattle.tva_node.specs.Besides.{KnowsNext}
-use Rattle.tva_node.specs.States.{NodeState}
-use Rattle.tva_node.specs.Work.{DecidesAt}
 use Rattle.tva_node.proofs.Finding.{rises, rises_above}
 use Rattle.tva_node.proofs.Works.{passed}
 use Rattle.tva_node.proofs.Waits.{some_is}

@@ -1,9 +1,9 @@
 -- A node may be moved to another thread and shared with it.
-use Rattle.std.proofs.Crossing.{crosses}
+use Rattle.tva_node.proofs.Common.{crosses}
 use denote.Param.Send.{IsSend, IsSync, sendable}
 use Rattle.tva_base.proofs.event.Event.TheSendSync as Event
-use Rattle.tva_log.proofs.kinds.Input.TheSendSync as Input
-use Rattle.tva_log.proofs.kinds.Sending.TheSendSync as Sending
+use Rattle.tva_run.proofs.kinds.Input.TheSendSync as Input
+use Rattle.tva_run.proofs.kinds.Sending.TheSendSync as Sending
 use Rattle.tva_node.proofs.links.Links.TheSendSync as Links
 use Rattle.tva_node.proofs.role.Role.TheSendSync as Role
 use Rattle.tva_waiting.proofs.flights.Flight.TheSendSync as Flight

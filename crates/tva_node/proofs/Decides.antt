@@ -1,43 +1,9 @@
 -- What a link of a node does at a time, and what the node stands for then.
-use Rattle.std.proofs.Common.{◌≡◌, ℕ, ◌+◌, ◌*◌, ◌<◌, ◌≤◌, false, List, [], ◌∷◌, ◌++◌, length, get_or, map, set, All, Option, Some, None, Result, Ok, Err, refl, sym, subst, ◌∙◌, ap, arith, append-nil, true≢false}
-use Rattle.std.specs.Prelude.{IsSome, OnOk}
-use Rattle.std.specs.Option.{option_map_or, option_and_then}
-use Rattle.std.proofs.lemmas.Bool.{eq-eqb}
-use Rattle.std.proofs.lemmas.List.{get_or-map, length-map}
-use Rattle.std.proofs.lemmas.List.Elements.{filter_map-append, All-get_or}
+use Rattle.tva_node.proofs.Common.{◌≡◌, ℕ, ◌+◌, ◌*◌, ◌<◌, ◌≤◌, false, List, [], ◌∷◌, ◌++◌, length, get_or, map, set, All, Option, Some, None, Result, Ok, Err, refl, sym, subst, ◌∙◌, ap, arith, append-nil, true≢false, IsSome, OnOk, option_map_or, option_and_then, eq-eqb, get_or-map, length-map, filter_map-append, All-get_or, Event, LinkLimits, LinkPlan, Class, AreLinkLimits, links_of, PacketData, packet_length, Decision, Start, WaitUntil, Idle, IsLegal, is_start, Input, Sending, Site, IsLinkOut, AreRising, link_out, limits_out, site_of, Entry, Started, port_entry, port_logs, starts, start_of, start_after, at_time, next_by, next_decision, next_on, busy_starts_none, free_starts, next_busy, next_rested, Link, Parts, Role, Memory, with_next, link_pair, RoleStands, IsBy, Gone, Keeps, NodeState, gone_in, role_plan, site_at, state_of, StandsAt, Decides, started_by, IsRank, AwaitsAt, DecidesAt, IsStartable, all_taken, end_on, start_event, start_sending}
 use Rattle.std.proofs.Math.Nat.{mul-le-mul_right}
-use Rattle.tva_base.specs.declared.event.Event.{Event}
 use Rattle.tva_base.specs.declared.event.Happened.TheVariants as happens
-use Rattle.tva_base.specs.declared.limits.LinkLimits.{LinkLimits}
-use Rattle.tva_base.specs.declared.plan.LinkPlan.{LinkPlan}
-use Rattle.tva_base.specs.declared.packet.Class.{Class}
-use Rattle.tva_base.specs.Plan.{AreLinkLimits, links_of}
-use Rattle.tva_shim.specs.Packets.{PacketData, packet_length}
-use Rattle.tva_port.specs.declared.decision.Decision.{Decision}
-use Rattle.tva_port.specs.declared.decision.Decision.TheVariants.{Start, WaitUntil, Idle}
 use Rattle.tva_port.specs.Log as port
-use Rattle.tva_port.specs.Legal.{IsLegal}
-use Rattle.tva_port.specs.Decide.{is_start}
 use Rattle.tva_port.proofs.Logs.{free-started}
-use Rattle.tva_log.specs.declared.kinds.Input.{Input}
-use Rattle.tva_log.specs.declared.kinds.Sending.{Sending}
-use Rattle.tva_log.specs.Sites.{Site, IsLinkOut, AreRising, link_out, limits_out, site_of}
-use Rattle.tva_log.specs.Entries.{Entry, Started}
-use Rattle.tva_log.specs.Parts.{port_entry, port_logs}
-use Rattle.tva_log.specs.NodeLog.{starts, start_of, start_after}
-use Rattle.tva_log.specs.Told.{at_time}
-use Rattle.tva_log.specs.Next.{next_by, next_decision, next_on}
-use Rattle.tva_log.proofs.Ports.{busy_starts_none, free_starts, next_busy, next_rested}
-use Rattle.tva_node.specs.declared.links.Link.{Link}
-use Rattle.tva_node.specs.declared.parts.Parts.{Parts}
-use Rattle.tva_node.specs.declared.role.Role.{Role}
-use Rattle.tva_waiting.specs.declared.memory.Memory.{Memory}
-use Rattle.tva_node.specs.Links.{with_next}
-use Rattle.tva_node.specs.Pairs.{link_pair}
-use Rattle.tva_node.specs.Besides.{RoleStands, IsBy}
-use Rattle.tva_node.specs.States.{Gone, Keeps, NodeState, gone_in, role_plan, site_at, state_of}
-use Rattle.tva_node.specs.Steps.{StandsAt, Decides, started_by}
-use Rattle.tva_node.specs.Work.{IsRank, AwaitsAt, DecidesAt, IsStartable, all_taken, end_on, start_event, start_sending}
 use Rattle.tva_node.proofs.Finding.{find-at, link_valid}
 use Rattle.tva_node.proofs.Roles.{role_legal}
 use Rattle.tva_node.proofs.Works.{found, pairs_put, rested, started_one}

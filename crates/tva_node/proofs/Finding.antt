@@ -1,16 +1,5 @@
 -- The links of a node by their numbers.
-use Rattle.std.proofs.Common.{◌≡◌, ℕ, zero, suc, ◌<◌, Bool, true, List, [], ◌∷◌, length, get_or, map, All, Option, Some, None, refl, sym, subst, ◌∙◌, arith, inl, inr}
-use Rattle.std.specs.Prelude.{◌==◌}
-use Rattle.std.specs.Option.{option_map}
-use Rattle.std.specs.List.{find}
-use Rattle.std.proofs.lemmas.Bool.{eq-eqb, ne_eqb, eqb-true, cases_Bool, cond-true, cond-false}
-use Rattle.std.proofs.lemmas.List.Elements.{All-head, All-map, All-tail}
-use Rattle.tva_base.specs.declared.limits.LinkLimits.{LinkLimits}
-use Rattle.tva_base.specs.declared.plan.LinkPlan.{LinkPlan}
-use Rattle.tva_base.specs.Plan.{AreLinkLimits, links_of}
-use Rattle.tva_log.specs.Sites.{AreRising, Site, IsSite, IsLinkOut, limits_out}
-use Rattle.tva_node.specs.declared.links.Link.{Link}
-use Rattle.tva_node.specs.Pairs.{link_pair}
+use Rattle.tva_node.proofs.Common.{◌≡◌, ℕ, zero, suc, ◌<◌, Bool, true, List, [], ◌∷◌, length, get_or, map, All, Option, Some, None, refl, sym, subst, ◌∙◌, arith, inl, inr, ◌==◌, option_map, find, eq-eqb, ne_eqb, eqb-true, cases_Bool, cond-true, cond-false, All-head, All-map, All-tail, LinkLimits, LinkPlan, AreLinkLimits, links_of, AreRising, Site, IsSite, IsLinkOut, limits_out, Link, link_pair}
 
 abbrev number_is : ℕ → ℕ × LinkPlan → Bool
 number_is k o = o.0 == k

@@ -1,7 +1,5 @@
 -- For a log a node stands whatever memory holds of it.
-use Rattle.std.proofs.Common.{List}
-use Rattle.tva_log.specs.Entries.{Entry}
-use Rattle.tva_node.specs.States.{Gone, NodeState, StandsFor}
+use Rattle.tva_node.proofs.Common.{List, Entry, Gone, NodeState, StandsFor}
 
 pub stands_without : (v : NodeState) (gone : Gone) (log : List Entry) → StandsFor v log → StandsFor (record v { gone = gone }) log
 stands_without v gone log s = record {

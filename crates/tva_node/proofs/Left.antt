@@ -1,19 +1,6 @@
 -- The inputs of a node that wait.
-use Rattle.std.proofs.Common.{◌≡◌, ℕ, ◌+◌, ◌<◌, ◌≤◌, List, [], ◌∷◌, ◌++◌, Some, sym, subst, ◌∙◌, ap, arith, false, true, append-nil, append_assoc}
-use Rattle.std.specs.Prelude.{All, nat_lt, ◌==◌}
-use Rattle.std.specs.List.{AllByRecursion}
-use Rattle.std.proofs.lemmas.Bool.{eqb-true}
-use Rattle.std.proofs.lemmas.Bool.Decides.{nat_tests}
-use Rattle.std.proofs.lemmas.List.Elements.{filter-append, recursion_from_All}
-use Rattle.tva_log.specs.Joins.{IsInOrder}
-use Rattle.tva_log.proofs.Joins.{cut-early, cut-late, each_later}
-use Rattle.tva_log.proofs.Putting.{each-put_all, in_order-put_all}
-use Rattle.tva_log.specs.declared.kinds.Input.{Input}
-use Rattle.tva_log.specs.Entries.{input_time, input_source}
-use Rattle.tva_log.specs.NodeLog.{in_turn, due}
-use Rattle.tva_log.proofs.Steps.{rest_late}
-use Rattle.tva_node.specs.States.{AreLeft}
-use Rattle.tva_node.specs.Work.{IsNoneBefore, first_time, is_due}
+use Rattle.tva_node.proofs.Common.{◌≡◌, ℕ, ◌+◌, ◌<◌, ◌≤◌, List, [], ◌∷◌, ◌++◌, Some, sym, subst, ◌∙◌, ap, arith, false, true, append-nil, append_assoc, nat_lt, ◌==◌, AllByRecursion, eqb-true, nat_tests, filter-append, recursion_from_All, IsInOrder, cut-early, cut-late, each_later, each-put_all, in_order-put_all, Input, input_time, input_source, in_turn, due, rest_late, AreLeft, IsNoneBefore, first_time, is_due}
+use Rattle.std.specs.Prelude.{All}
 
 pub in_turn-ordered : (xs : List Input) → IsInOrder input_time input_source (in_turn xs)
 in_turn-ordered xs = in_order-put_all input_time input_source xs [] tt

@@ -1,3 +1,4 @@
+mod Common
 pub mod Sorting
 pub mod Making
 pub mod Finding

@@ -1,36 +1,8 @@
 -- What is in force at a router that makes its changes in their turn.
-use Rattle.std.proofs.Common.{◌≡◌, ℕ, zero, suc, ◌+◌, ◌≤◌, ◌<◌, Bool, true, false, cond, List, [], ◌∷◌, ◌++◌, filter, map, take, drop, length, get_or, Option, Some, None, All, refl, sym, subst, ap, ap₂, ◌∙◌, arith, inl, inr, append-nil}
-use Rattle.std.specs.Prelude.{◌==◌, nat_le, Contains}
-use Rattle.std.specs.List.{AllByRecursion}
-use Rattle.std.specs.List.Sorted.{IsNonDecreasingBy, IsPermutation, IsStableByKey}
-use Rattle.std.specs.Ordering.{nat_cmp}
-use Rattle.std.proofs.lemmas.Bool.{cases_Bool, cond-true, cond-false, le-leb}
-use Rattle.std.proofs.lemmas.Bool.Decides.{nat_tests}
-use Rattle.std.proofs.lemmas.List.{map_push, take-append-drop, take_more, length-take-le}
-use Rattle.std.proofs.lemmas.List.Elements.{filter-append, All-get_or, Contains-get_or}
-use Rattle.std.proofs.lemmas.List.Sorted.{All-permutation}
-use Rattle.std.proofs.lemmas.List.Sums.{length-filter}
-use Rattle.tva_base.specs.declared.addresses.Prefix.{Prefix}
-use Rattle.tva_base.specs.declared.packet.Time.{Time}
+use Rattle.tva_node.proofs.Common.{◌≡◌, ℕ, zero, suc, ◌+◌, ◌≤◌, ◌<◌, Bool, true, false, cond, List, [], ◌∷◌, ◌++◌, filter, map, take, drop, length, get_or, Option, Some, None, All, refl, sym, subst, ap, ap₂, ◌∙◌, arith, inl, inr, append-nil, ◌==◌, nat_le, Contains, AllByRecursion, IsNonDecreasingBy, IsPermutation, IsStableByKey, nat_cmp, cases_Bool, cond-true, cond-false, le-leb, nat_tests, map_push, take-append-drop, take_more, length-take-le, filter-append, All-get_or, Contains-get_or, All-permutation, length-filter, Prefix, Time, RouterPlan, IsRouterPlan, links_of, boot_at, changed_plan, has_come, in_force, last_of, master_at, of_prefix, route_at, same_prefix, Charge, charges_of_boot, PortLogs, outgoing_link, rerouted, RouterData, NeverFalls, each-append, each-weaker, filter-all, filter-none, filter-true, filter-false, filter_swap, in_order-filter, join_unique, charges, port_logs, charges_none, Changes, Routed, AreByTime, AreMade, move_time, plan_after, restart_time, route_after, IsRoutedBy, IsNextLater, IsRestarted, IsUpTo, StandsOn}
 use Rattle.tva_base.specs.declared.plan.Route.{Route}
-use Rattle.tva_base.specs.declared.plan.RouterPlan.{RouterPlan}
-use Rattle.tva_base.specs.Plan.{AreRising, IsRouterPlan, links_of}
-use Rattle.tva_base.specs.Changes.{boot_at, changed_plan, has_come, in_force, last_of, master_at, of_prefix, route_at, same_prefix}
-use Rattle.tva_flow.specs.Charges.{Charge}
-use Rattle.tva_router.specs.Boots.{charges_of_boot}
-use Rattle.tva_router.specs.Handling.{PortLogs, outgoing_link}
-use Rattle.tva_router.specs.Routes.{rerouted}
+use Rattle.tva_base.specs.Plan.{AreRising}
 use Rattle.tva_router.specs.Stands as router
-use Rattle.tva_router.specs.Stands.{RouterData}
-use Rattle.tva_log.specs.Joins.{NeverFalls}
-use Rattle.tva_log.proofs.Joins.{each-append, each-weaker, filter-all, filter-none, filter-true, filter-false, filter_swap, in_order-filter, join_unique}
-use Rattle.tva_log.specs.Parts.{charges, port_logs}
-use Rattle.tva_log.proofs.Boots.{charges_none}
-use Rattle.tva_node.specs.declared.changes.Changes.{Changes}
-use Rattle.tva_node.specs.declared.role.Routed.{Routed}
-use Rattle.tva_node.specs.Changes.{AreByTime, AreMade, move_time, plan_after, restart_time, route_after}
-use Rattle.tva_node.specs.Besides.{IsRoutedBy}
-use Rattle.tva_node.specs.Making.{IsNextLater, IsRestarted, IsUpTo, StandsOn}
 use Rattle.tva_node.proofs.Sorting.{falls_from, order_of, rising_falls, ties_from}
 
 -- ## changes of routes by time

@@ -1,36 +1,7 @@
 -- What a node stands for that is new, or that is given one more input; and when it has work.
-use Rattle.std.proofs.Common.{◌≡◌, ℕ, ◌+◌, ◌<◌, ◌≤◌, false, List, [], ◌∷◌, ◌++◌, get_or, map, All, Option, Some, None, Result, Ok, Err, refl, sym, subst, ◌∙◌, ap, arith, inl, inr}
-use Rattle.std.specs.Prelude.{nat_lt, ◌==◌, ◌||◌, ◌&&◌, Contains, OnErr, OnOk}
-use Rattle.std.specs.Option.{option_and_then, option_map}
-use Rattle.std.specs.List.{AllByRecursion, find}
-use Rattle.std.proofs.lemmas.Bool.{cond-true, cond-false, eq-eqb}
-use Rattle.std.proofs.lemmas.Bool.Decides.{nat_tests}
-use Rattle.std.proofs.lemmas.List.{map-append}
-use Rattle.std.proofs.lemmas.List.Elements.{All-nil, All-head, All-map, All-push, Contains-append_right, Contains-get_or}
-use Rattle.tva_base.specs.declared.limits.LinkLimits.{LinkLimits}
-use Rattle.tva_base.specs.declared.plan.LinkPlan.{LinkPlan}
-use Rattle.tva_base.specs.Plan.{AreLinkLimits, links_of}
-use Rattle.tva_plan.specs.declared.config.NodePlan.{NodePlan}
-use Rattle.tva_port.specs.Waiting.{waiting_after, IsEmpty}
+use Rattle.tva_node.proofs.Common.{◌≡◌, ℕ, ◌+◌, ◌<◌, ◌≤◌, false, List, [], ◌∷◌, ◌++◌, get_or, map, All, Option, Some, None, Result, Ok, Err, refl, sym, subst, ◌∙◌, ap, arith, inl, inr, nat_lt, ◌==◌, ◌||◌, ◌&&◌, Contains, OnErr, OnOk, option_and_then, option_map, AllByRecursion, find, cond-true, cond-false, eq-eqb, nat_tests, map-append, All-nil, All-head, All-map, All-push, Contains-append_right, Contains-get_or, LinkLimits, LinkPlan, AreLinkLimits, links_of, NodePlan, waiting_after, IsEmpty, precedes, put_in, each-cut, each-weaker, cut-put_all, put_all-append, Input, Site, IsLinkOut, IsSite, limits_out, site_of, Entry, input_source, input_time, in_turn, due, next_by, next_decision, IsWorkAt, IsNodeLog-same, Link, Role, first_link, least_next, link_pair, Memory, IsBy, KnowsNext, RoleStands, AreLeft, Gone, NodeState, Fits, IsFirstWork, Stands, StandsFor, none_gone, role_plan, IsNoneBefore, first_time, work_time}
 use Rattle.tva_port.proofs.Idling.{empty_idles}
 use Rattle.tva_port.proofs.Levels.{none_first as no_request_first}
-use Rattle.tva_log.specs.Joins.{precedes, put_in}
-use Rattle.tva_log.proofs.Joins.{each-cut, each-weaker}
-use Rattle.tva_log.proofs.Putting.{cut-put_all, put_all-append}
-use Rattle.tva_log.specs.declared.kinds.Input.{Input}
-use Rattle.tva_log.specs.Sites.{Site, IsLinkOut, IsSite, limits_out, site_of}
-use Rattle.tva_log.specs.Entries.{Entry, input_source, input_time}
-use Rattle.tva_log.specs.NodeLog.{in_turn, due}
-use Rattle.tva_log.specs.Next.{next_by, next_decision, IsWorkAt}
-use Rattle.tva_log.proofs.Logs.{IsNodeLog-same}
-use Rattle.tva_node.specs.declared.links.Link.{Link}
-use Rattle.tva_node.specs.declared.role.Role.{Role}
-use Rattle.tva_node.specs.Links.{first_link, least_next}
-use Rattle.tva_node.specs.Pairs.{link_pair}
-use Rattle.tva_waiting.specs.declared.memory.Memory.{Memory}
-use Rattle.tva_node.specs.Besides.{IsBy, KnowsNext, RoleStands}
-use Rattle.tva_node.specs.States.{AreLeft, Gone, NodeState, Fits, IsFirstWork, Stands, StandsFor, none_gone, role_plan}
-use Rattle.tva_node.specs.Work.{IsNoneBefore, first_time, work_time}
 use Rattle.tva_node.proofs.Works.{any_link, either, none_sooner, quiet, work_late}
 
 -- what holds anyway holds after an error

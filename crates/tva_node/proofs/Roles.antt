@@ -1,81 +1,30 @@
 -- What a router or a host that stands for a node's log tells of its links' logs, and how it goes on.
-use Rattle.std.proofs.Common.{ap₂, ◌≡◌, ℕ, ◌+◌, ◌≤◌, Bool, true, false, cond, List, [], ◌∷◌, ◌++◌, map, Option, Some, None, Result, Ok, Err, refl, sym, subst, ◌∙◌, ap, arith, inl, inr, append-nil}
-use Rattle.std.specs.Prelude.{◌==◌, min, IfOk}
-use Rattle.std.specs.Option.{option_map}
-use Rattle.std.specs.List.{AllByRecursion, find, cons_option}
-use Rattle.std.proofs.lemmas.Bool.{cond-true, cond-false, cases_Bool, eq-eqb, eqb-true}
-use Rattle.std.proofs.lemmas.List.Elements.{filter_map-append, All-weaker}
-use Rattle.std.proofs.lemmas.List.Sums.{sum_by_push}
-use Rattle.tva_base.specs.declared.limits.LinkLimits.{LinkLimits}
-use Rattle.tva_base.specs.declared.plan.LinkPlan.{LinkPlan}
-use Rattle.tva_base.specs.declared.plan.RouterPlan.{RouterPlan}
-use Rattle.tva_base.specs.declared.packet.Class.{Class}
-use Rattle.tva_base.specs.declared.packet.Time.{Time}
-use Rattle.tva_base.specs.declared.plan.HostPlan.{HostPlan}
-use Rattle.tva_base.specs.declared.event.Happened.{Happened}
+use Rattle.tva_node.proofs.Common.{ap₂, ◌≡◌, ℕ, ◌+◌, ◌≤◌, Bool, true, false, cond, List, [], ◌∷◌, ◌++◌, map, Option, Some, None, Result, Ok, Err, refl, sym, subst, ◌∙◌, ap, arith, inl, inr, append-nil, ◌==◌, IfOk, option_map, AllByRecursion, find, cons_option, cond-true, cond-false, cases_Bool, eq-eqb, eqb-true, filter_map-append, All-weaker, sum_by_push, LinkLimits, LinkPlan, RouterPlan, Class, Time, HostPlan, Happened, Address, Upper, Outcome, Queued, Dropped, links_of, boot_at, in_force, PacketData, packet_length, class_by_shim, key_of, nonce_in, Charge, Decision, Start, WaitUntil, Idle, IsLegal, queued_by, Made, Call, Received, history_of, Files, Act, Came, answer_to, answered, delivered, is_addressed_to, CourierData, charges_at, charges_of_boot, PortLogs, charged_by, entered_by, handle, outcome_of, outgoing_link, sent, ◌with◌, started_on, NodePlan, Input, FromTrace, Arrival, Site, IsSite, IsPlanned, limits_out, Content, Arrived, Sent, Entry, Took, Started, input_time, act_of, act_of_input, act_of_row, acts, call_of, call_of_input, call_of_row, files, reply_at, calls, charge_of, charged, charges, content_at, is_row, port_entry, port_logs, queued_at, count_of_rows, arrived, content_by, goes_out, handled, hosted, made_for, routed, sent_out, content_told, reply_told, each-append, each-weaker, AreLegal, charges_now, Changes, Role, Routed, Hosted, RoleStands, StandsAsRouter, StandsAsHost, IsBy, role_plan, IsUpTo, HostTook, RouterTook, Takes, reply_went, started_by, went_out}
+use Rattle.std.specs.Prelude.{min}
 use Rattle.tva_base.specs.declared.event.Happened.TheVariants as happens
 use Rattle.tva_base.specs.declared.event.DataLine.{DataLine}
 use Rattle.tva_base.specs.declared.event.ReplyLine.{ReplyLine}
-use Rattle.tva_base.specs.declared.addresses.Address.{Address}
-use Rattle.tva_base.specs.declared.packet.Upper.{Upper}
 use Rattle.tva_base.specs.declared.packet.Upper.TheVariants as upper
 use Rattle.tva_base.specs.declared.packet.PacketId.{PacketId}
 use Rattle.tva_base.specs.declared.packet.Grant.{Grant}
-use Rattle.tva_base.specs.declared.packet.Outcome.{Outcome}
-use Rattle.tva_base.specs.declared.packet.Outcome.TheVariants.{Queued, Dropped}
-use Rattle.tva_base.specs.Plan.{links_of}
-use Rattle.tva_base.specs.Changes.{boot_at, in_force}
 use Rattle.tva_base.specs.Ordinals.{ordinal_behind}
-use Rattle.tva_shim.specs.Packets.{PacketData, packet_length, class_by_shim}
-use Rattle.tva_shim.specs.Shows.{key_of, nonce_in}
 use Rattle.tva_drr.specs.declared.offered.Offered.{Offered}
 use Rattle.tva_drr.specs.declared.offered.Offered.TheVariants as offers
-use Rattle.tva_flow.specs.Charges.{Charge}
-use Rattle.tva_port.specs.declared.decision.Decision.{Decision}
-use Rattle.tva_port.specs.declared.decision.Decision.TheVariants.{Start, WaitUntil, Idle}
 use Rattle.tva_port.specs.Log as port
-use Rattle.tva_port.specs.Legal.{IsLegal}
-use Rattle.tva_port.specs.Waiting.{queued_by}
 use Rattle.tva_port.specs.Decide.{started_by as port_started}
 use Rattle.tva_port.specs.Stands as port_stands
-use Rattle.tva_host.specs.declared.made.Made.{Made}
 use Rattle.tva_host.specs.declared.made.Receipt.{Receipt}
 use Rattle.tva_host.specs.History.{History}
 use Rattle.tva_host.specs.Receiving.{receipt_of, upper_of}
-use Rattle.tva_host.specs.Calls.{Call, Received, history_of}
 use Rattle.tva_host.proofs.Shown.{answer_is_shown, nothing_is_shown}
-use Rattle.tva_transfer.specs.Files.{Files, Act, Came, answer_to, answered, delivered, is_addressed_to}
 use Rattle.tva_transfer.specs.Stands as courier
-use Rattle.tva_transfer.specs.Stands.{CourierData}
 use Rattle.tva_rows.specs.declared.rows.Row.{Row}
-use Rattle.tva_router.specs.Boots.{charges_at, charges_of_boot}
-use Rattle.tva_router.specs.Handling.{PortLogs, charged_by, entered_by, handle, outcome_of, outgoing_link, sent}
 use Rattle.tva_router.specs.Stands as router
-use Rattle.tva_router.specs.Stands.{◌with◌, started_on}
 use Rattle.tva_router.proofs.Known.{known}
 use Rattle.tva_router.proofs.Fates.{charges_told, queued_told}
-use Rattle.tva_plan.specs.declared.config.NodePlan.{NodePlan}
 use Rattle.tva_plan.specs.declared.config.NodePlan.TheVariants as plans
-use Rattle.tva_log.specs.declared.kinds.Input.{Input}
-use Rattle.tva_log.specs.declared.kinds.Input.TheVariants.{FromTrace, Arrival}
-use Rattle.tva_log.specs.Sites.{Site, IsSite, IsPlanned, limits_out}
-use Rattle.tva_log.specs.Entries.{Content, Arrived, Sent, Entry, Took, Started, input_time}
-use Rattle.tva_log.specs.Entries as entry
-use Rattle.tva_log.specs.Parts.{act_of, act_of_input, act_of_row, acts, call_of, call_of_input, call_of_row, files, reply_at, calls, charge_of, charged, charges, content_at, is_row, port_entry, port_logs, queued_at, count_of_rows}
-use Rattle.tva_log.specs.Contents.{arrived, content_by, goes_out, handled, hosted, made_for, routed, sent_out}
-use Rattle.tva_log.specs.Told.{content_told, reply_told}
-use Rattle.tva_log.proofs.Joins.{each-append, each-weaker}
-use Rattle.tva_log.proofs.Legal.{AreLegal}
-use Rattle.tva_log.proofs.Boots.{charges_now}
-use Rattle.tva_node.specs.declared.changes.Changes.{Changes}
-use Rattle.tva_node.specs.declared.role.Role.{Role}
+use Rattle.tva_run.specs.Entries as entry
 use Rattle.tva_node.specs.declared.role.Role.TheVariants as roles
-use Rattle.tva_node.specs.declared.role.Routed.{Routed}
-use Rattle.tva_node.specs.declared.role.Hosted.{Hosted}
-use Rattle.tva_node.specs.Besides.{RoleStands, StandsAsRouter, StandsAsHost, IsBy}
-use Rattle.tva_node.specs.States.{role_plan}
-use Rattle.tva_node.specs.Making.{IsUpTo}
-use Rattle.tva_node.specs.Steps.{HostTook, RouterTook, Takes, reply_went, started_by, went_out}
 use Rattle.tva_node.proofs.Making.{routed_later, same_links}
 
 -- a time is no earlier

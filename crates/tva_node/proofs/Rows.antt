@@ -1,16 +1,8 @@
 -- The call on a host that a row is, by the packet that it makes.
-use Rattle.std.proofs.Common.{◌≡◌, ℕ, List, Option, Some, None, Result, Ok, Err, refl, ◌∙◌, ap}
-use Rattle.std.specs.Prelude.{IfOk}
-use Rattle.std.specs.Option.{option_map}
-use Rattle.tva_base.specs.declared.addresses.Address.{Address}
-use Rattle.tva_base.specs.declared.packet.Upper.{Upper}
-use Rattle.tva_host.specs.declared.made.Made.{Made}
-use Rattle.tva_host.specs.Calls.{Call, Intended}
+use Rattle.tva_node.proofs.Common.{◌≡◌, ℕ, List, Option, Some, None, Result, Ok, Err, refl, ◌∙◌, ap, IfOk, option_map, Address, Upper, Made, Call, Intended, call_with, sent_with, call_of_row}
 use Rattle.tva_host.specs.Sending.{intended}
 use Rattle.tva_host.specs.Stands.{HostData}
-use Rattle.tva_transfer.specs.Stands.{call_with, sent_with}
 use Rattle.tva_rows.specs.declared.rows.RowWhat.TheVariants as rows
-use Rattle.tva_log.specs.Parts.{call_of_row}
 
 shown : (h : HostData) (calls : List Call) (now : ℕ) (dst : Address) (above : Upper) → (let made = sent_with h calls now dst above in Intended now dst made.packet.payload made.packet.upper ≡ call_with now dst above)
 unfolding intended

@@ -1,15 +1,7 @@
 -- The order that a stable sort by time leaves.
-use Rattle.std.proofs.Common.{◌≡◌, ℕ, zero, suc, ◌≤◌, ◌<◌, Bool, true, false, cond, List, [], ◌∷◌, map, refl, sym, ◌∙◌, ap, arith, inl, inr, ◌⊎◌}
-use Rattle.std.specs.Prelude.{◌==◌, ◌&&◌, nat_lt, not}
-use Rattle.std.specs.List.{AllByRecursion}
+use Rattle.tva_node.proofs.Common.{◌≡◌, ℕ, zero, suc, ◌≤◌, ◌<◌, Bool, true, false, cond, List, [], ◌∷◌, map, refl, sym, ◌∙◌, ap, arith, inl, inr, ◌⊎◌, ◌==◌, ◌&&◌, nat_lt, not, AllByRecursion, is_lt, nat_cmp, IsNonDecreasingBy, IsStableByKey, ties, cases_order, cases_lt, eq-eqb, ne_eqb, lt-ltb, le-ltb, filter_agree, recursion_from_All, IsInOrder, MayPrecede, NeverFalls, from_source, each-weaker}
 use Rattle.std.specs.declared.cmp.Ordering.TheVariants.{Less, Equal, Greater}
-use Rattle.std.specs.Ordering.{is_lt, nat_cmp}
-use Rattle.std.specs.List.Sorted.{IsNonDecreasingBy, IsStableByKey, ties}
-use Rattle.std.proofs.lemmas.Bool.{cases_order, cases_lt, eq-eqb, ne_eqb, lt-ltb, le-ltb}
-use Rattle.std.proofs.lemmas.List.Elements.{filter_agree, recursion_from_All}
 use Rattle.tva_base.specs.Plan.{AreRising}
-use Rattle.tva_log.specs.Joins.{IsInOrder, MayPrecede, NeverFalls, from_source}
-use Rattle.tva_log.proofs.Joins.{each-weaker}
 
 pub falls_from : {X : Type 0} (time : X → ℕ) (xs : List X) → IsNonDecreasingBy time xs → NeverFalls time xs
 falls_from time [] h = tt

@@ -1,20 +1,5 @@
 -- An input that is taken, and what the node stands for then.
-use Rattle.std.proofs.Common.{◌≡◌, ℕ, ◌≤◌, ◌∷◌, [], ◌++◌, List, map, true, refl, sym, subst, ap, arith}
-use Rattle.tva_base.specs.declared.event.Event.{Event}
-use Rattle.tva_base.specs.declared.event.Happened.{Happened}
-use Rattle.tva_past.specs.Kept.{with_more}
-use Rattle.tva_log.specs.declared.kinds.Input.{Input}
-use Rattle.tva_log.specs.Entries.{Entry, input_time}
-use Rattle.tva_log.specs.Sites.{IsSite, Site, site_of}
-use Rattle.tva_node.specs.declared.links.Link.{Link}
-use Rattle.tva_node.specs.declared.parts.Parts.{Parts}
-use Rattle.tva_node.specs.declared.role.Role.{Role}
-use Rattle.tva_node.specs.Besides.{IsBy, RoleStands}
-use Rattle.tva_node.specs.Links.{asked_by}
-use Rattle.tva_node.specs.Pairs.{link_pair}
-use Rattle.tva_node.specs.States.{Fits, NodeState, gone_in, role_plan, site_at, state_of}
-use Rattle.tva_node.specs.Steps.{Takes}
-use Rattle.tva_node.specs.Work.{TakesAt, is_due, queued_on}
+use Rattle.tva_node.proofs.Common.{◌≡◌, ℕ, ◌≤◌, ◌∷◌, [], ◌++◌, List, map, true, refl, sym, subst, ap, arith, Event, Happened, with_more, Input, Entry, input_time, IsSite, Site, site_of, Link, Parts, Role, IsBy, RoleStands, asked_by, link_pair, Fits, NodeState, gone_in, role_plan, site_at, state_of, Takes, TakesAt, is_due, queued_on}
 use Rattle.tva_node.proofs.Decides.{from_fields}
 use Rattle.tva_node.proofs.Left.{some_due}
 use Rattle.tva_node.proofs.Waits.{asked_pairs}

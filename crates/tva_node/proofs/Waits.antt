@@ -1,29 +1,7 @@
 -- Links that have not decided yet at a time: each is asked then, or knows when it decides next.
-use Rattle.std.proofs.Common.{◌≡◌, ℕ, ◌<◌, ◌≤◌, List, [], ◌∷◌, ◌++◌, map, All, Option, Some, None, false, refl, sym, subst, ◌∙◌, ap, arith, inl, inr, append-nil}
-use Rattle.std.specs.Prelude.{◌==◌}
-use Rattle.std.specs.Option.{option_and_then}
-use Rattle.std.specs.List.{cons_option}
-use Rattle.std.proofs.lemmas.Bool.{cases_eq, cond-true, cond-false, eq-eqb, ne_eqb, leb-false}
-use Rattle.std.proofs.lemmas.List.Elements.{All-map, All-weaker, filter_map-append}
-use Rattle.tva_base.specs.declared.plan.LinkPlan.{LinkPlan}
-use Rattle.tva_base.specs.declared.packet.Class.{Class}
-use Rattle.tva_base.specs.declared.packet.Outcome.{Outcome}
-use Rattle.tva_base.specs.declared.packet.Outcome.TheVariants.{Queued, Dropped}
+use Rattle.tva_node.proofs.Common.{◌≡◌, ℕ, ◌<◌, ◌≤◌, List, [], ◌∷◌, ◌++◌, map, All, Option, Some, None, false, refl, sym, subst, ◌∙◌, ap, arith, inl, inr, append-nil, ◌==◌, option_and_then, cons_option, cases_eq, cond-true, cond-false, eq-eqb, ne_eqb, leb-false, All-map, All-weaker, filter_map-append, LinkPlan, Class, Outcome, Queued, Dropped, PacketData, class_by_shim, key_of, Made, Input, Site, limits_out, Content, Arrived, Sent, Ticked, Entry, Took, input_time, queued_at, reply_at, content_at, port_entry, port_logs, content_told, reply_told, next_decision, Link, asked_by, is_asked, link_pair, KnowsNext, link_of, queued_on, Waits}
 use Rattle.tva_port.specs.Log as port
-use Rattle.tva_shim.specs.Packets.{PacketData, class_by_shim}
-use Rattle.tva_shim.specs.Shows.{key_of}
-use Rattle.tva_host.specs.declared.made.Made.{Made}
-use Rattle.tva_log.specs.declared.kinds.Input.{Input}
-use Rattle.tva_log.specs.Sites.{Site, limits_out}
-use Rattle.tva_log.specs.Entries.{Content, Arrived, Sent, Ticked, Received, Entry, Took, input_time}
-use Rattle.tva_log.specs.Parts.{queued_at, reply_at, content_at, port_entry, port_logs}
-use Rattle.tva_log.specs.Told.{content_told, reply_told}
-use Rattle.tva_log.specs.Next.{next_decision}
-use Rattle.tva_node.specs.declared.links.Link.{Link}
-use Rattle.tva_node.specs.Links.{asked_by, is_asked}
-use Rattle.tva_node.specs.Pairs.{link_pair}
-use Rattle.tva_node.specs.Besides.{KnowsNext}
-use Rattle.tva_node.specs.Work.{link_of, queued_on, Waits}
+use Rattle.tva_run.specs.Entries.{Received}
 
 pub some_is : (a b : ℕ) → Some a ≡ Some b → a ≡ b
 some_is a b e = cc

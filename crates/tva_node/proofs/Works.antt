@@ -1,42 +1,7 @@
 -- How a node works: what it stands for before, within and after one time.
-use Rattle.std.proofs.Common.{◌≡◌, ℕ, zero, suc, ◌+◌, ◌<◌, ◌≤◌, min, List, [], ◌∷◌, ◌++◌, length, get_or, map, take, drop, set, All, Option, Some, None, false, refl, sym, subst, ◌∙◌, ap, ap₂, arith, inl, inr, ◌⊎◌, append-nil}
-use Rattle.std.specs.Prelude.{◌==◌, Contains}
-use Rattle.std.specs.Option.{option_map, option_and_then}
-use Rattle.std.specs.List.{AllByRecursion, find, cons_option}
-use Rattle.std.proofs.lemmas.Bool.{cases_lt}
-use Rattle.std.proofs.lemmas.List.{map_push, drop_more, take-append-drop, set-get_or, get_or-drop, get_or-map, length-drop, map-set, take_more_set, drop-set-lt, set_split, take_all}
-use Rattle.std.proofs.lemmas.List.Elements.{All-nil, All-cons, All-head, All-tail, All-map, All-contains, All-from_recursion, All-weaker, All-append, All-set, All-take, All-get_or, filter_map-append}
-use Rattle.tva_base.specs.declared.event.Event.{Event}
-use Rattle.tva_base.specs.declared.event.Happened.{Happened}
-use Rattle.tva_base.specs.declared.limits.LinkLimits.{LinkLimits}
-use Rattle.tva_base.specs.declared.plan.LinkPlan.{LinkPlan}
-use Rattle.tva_base.specs.declared.packet.Class.{Class}
-use Rattle.tva_base.specs.Plan.{links_of}
+use Rattle.tva_node.proofs.Common.{◌≡◌, ℕ, zero, suc, ◌+◌, ◌<◌, ◌≤◌, min, List, [], ◌∷◌, ◌++◌, length, get_or, map, take, drop, set, All, Option, Some, None, false, refl, sym, subst, ◌∙◌, ap, ap₂, arith, inl, inr, ◌⊎◌, append-nil, ◌==◌, Contains, option_map, option_and_then, AllByRecursion, find, cons_option, cases_lt, map_push, drop_more, take-append-drop, set-get_or, get_or-drop, get_or-map, length-drop, map-set, take_more_set, drop-set-lt, set_split, take_all, All-nil, All-cons, All-head, All-tail, All-map, All-contains, All-from_recursion, All-weaker, All-append, All-set, All-take, All-get_or, filter_map-append, Event, Happened, LinkLimits, LinkPlan, Class, links_of, PacketData, each-append, each-weaker, each-cut, Input, Sending, Site, limits_out, AreRising, Entry, Took, Started, input_time, input_source, port_logs, IsNodeLog, in_turn, due, starts, start_after, sendings, event_of, sending_of, at_time, next_decision, next_on, IsQuiet, AreLegal, logs-other, next_again, quiet_starts_none, due_same, quiet_log, late_on, begins, takes, rests, starts_one, ends, Link, Role, asked_by, is_asked, least_next, sooner, with_next, link_pair, KnowsNext, RoleStands, IsBy, AreLeft, NodeState, StandsFor, Stands, Fits, role_plan, StandsAt, Takes, IsNoneBefore, first_time, work_time, is_due, queued_on, Waits, AwaitsAt, TakesAt, IsRank, DecidesAt, all_taken}
 use Rattle.tva_port.specs.Log as port
-use Rattle.tva_shim.specs.Packets.{PacketData}
-use Rattle.tva_log.proofs.Joins.{each-append, each-weaker, each-cut}
-use Rattle.tva_log.specs.declared.kinds.Input.{Input}
-use Rattle.tva_log.specs.declared.kinds.Sending.{Sending}
-use Rattle.tva_log.specs.Sites.{Site, limits_out, AreRising}
-use Rattle.tva_log.specs.Entries.{Entry, Took, Started, input_time, input_source}
-use Rattle.tva_log.specs.Parts.{port_logs}
-use Rattle.tva_log.specs.NodeLog.{IsNodeLog, in_turn, due, starts, start_after}
-use Rattle.tva_log.specs.AtTime.{IsAt}
-use Rattle.tva_log.specs.Told.{sendings, event_of, sending_of, at_time}
-use Rattle.tva_log.specs.Next.{next_decision, next_on, IsQuiet}
-use Rattle.tva_log.proofs.Legal.{AreLegal}
-use Rattle.tva_log.proofs.Logs.{logs-other}
-use Rattle.tva_log.proofs.Ports.{next_again, quiet_starts_none}
-use Rattle.tva_log.proofs.Quiet.{due_same, quiet_log, late_on}
-use Rattle.tva_log.proofs.Steps.{begins, takes, rests, starts_one, ends}
-use Rattle.tva_node.specs.declared.links.Link.{Link}
-use Rattle.tva_node.specs.declared.role.Role.{Role}
-use Rattle.tva_node.specs.Links.{asked_by, is_asked, least_next, sooner, with_next}
-use Rattle.tva_node.specs.Pairs.{link_pair}
-use Rattle.tva_node.specs.Besides.{KnowsNext, RoleStands, IsBy}
-use Rattle.tva_node.specs.States.{AreLeft, NodeState, StandsFor, Stands, Fits, role_plan}
-use Rattle.tva_node.specs.Steps.{StandsAt, Takes}
-use Rattle.tva_node.specs.Work.{IsNoneBefore, first_time, work_time, is_due, queued_on, Waits, AwaitsAt, TakesAt, IsRank, DecidesAt, all_taken}
+use Rattle.tva_run.specs.AtTime.{IsAt}
 use Rattle.tva_node.proofs.Finding.{find-none, find-some, find-at, link_valid, rises}
 use Rattle.tva_node.proofs.Left.{left_late, next_late, next_left, none_due, taken_due, waiting_each}
 use Rattle.tva_node.proofs.Roles.{by-later, role_legal}

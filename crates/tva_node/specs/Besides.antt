@@ -8,11 +8,11 @@ use Rattle.tva_port.specs.Stands as port
 use Rattle.tva_router.specs.Boots.{charges_of_boot}
 use Rattle.tva_router.specs.Stands as router
 use Rattle.tva_transfer.specs.Stands as courier
-use Rattle.tva_log.specs.Sites.{Site, limits_out}
-use Rattle.tva_log.specs.Entries.{Entry, input_time}
-use Rattle.tva_log.specs.Parts.{port_logs, charges, count_of_rows, calls, acts}
-use Rattle.tva_log.specs.NodeLog.{in_turn, due}
-use Rattle.tva_log.specs.Next.{next_on}
+use Rattle.tva_run.specs.Sites.{Site, limits_out}
+use Rattle.tva_run.specs.Entries.{Entry, input_time}
+use Rattle.tva_run.specs.Parts.{port_logs, charges, count_of_rows, calls, acts}
+use Rattle.tva_run.specs.NodeLog.{in_turn, due}
+use Rattle.tva_run.specs.Next.{next_on}
 use Rattle.tva_node.specs.declared.role.Role.{Role}
 use Rattle.tva_node.specs.declared.role.Role.TheVariants as roles
 use Rattle.tva_node.specs.declared.role.Routed.{Routed}

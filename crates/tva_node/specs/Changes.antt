@@ -6,7 +6,7 @@ use Rattle.tva_base.specs.declared.packet.Time.{Time}
 use Rattle.tva_base.specs.declared.plan.Route.{Route}
 use Rattle.tva_base.specs.declared.plan.RouterPlan.{RouterPlan}
 use Rattle.tva_base.specs.Changes.{changed_plan, last_of, of_prefix}
-use Rattle.tva_log.specs.Joins.{NeverFalls}
+use Rattle.tva_run.specs.Joins.{NeverFalls}
 
 abbrev pub restart_time : Time × List ℕ → ℕ
 restart_time c = c.0.0

@@ -8,7 +8,7 @@ use Rattle.tva_node.specs.declared.changes.Changes.{Changes}
 use Rattle.tva_node.specs.declared.role.Routed.{Routed}
 use Rattle.tva_node.specs.Changes.{restart_time}
 use Rattle.tva_node.specs.Besides.{IsRoutedBy, StandsAsRouter}
-use Rattle.tva_log.specs.Entries.{Entry}
+use Rattle.tva_run.specs.Entries.{Entry}
 
 -- the change behind the first so many is later than a time, where there is one
 abbrev pub IsNextLater : {X : Type 0} → (X → ℕ) → List X → ℕ → ℕ → Type 0

@@ -1,7 +1,7 @@
 -- Kit: all that a node's links sent.
 use Rattle.std.specs.Prelude.{ℕ, List, [], ◌∷◌, ◌++◌, length}
-use Rattle.tva_log.specs.declared.kinds.Sending.{Sending}
-use Rattle.tva_past.specs.Kept.{KeptList}
+use Rattle.tva_run.specs.declared.kinds.Sending.{Sending}
+use Rattle.tva_waiting.specs.Kept.{KeptList}
 use Rattle.tva_waiting.specs.declared.memory.Memory.{Memory}
 use Rattle.tva_waiting.specs.declared.memory.Memory.TheVariants as memory
 

@@ -1,12 +1,12 @@
 -- Crate: for which log a node stands, and what its work leaves of it.
 use Rattle.std.specs.Prelude.{◌≡◌, ℕ, ◌+◌, ◌<◌, ◌≤◌, min, max, List, ◌++◌, Option, Some, None}
 use Rattle.tva_base.specs.declared.packet.Time.{Time}
-use Rattle.tva_log.specs.declared.kinds.Input.{Input}
-use Rattle.tva_log.specs.Sites.{Site, IsSite}
-use Rattle.tva_log.specs.Entries.{Entry}
-use Rattle.tva_log.specs.NodeLog.{IsNodeLog, in_turn}
-use Rattle.tva_log.specs.Told.{events, sendings}
-use Rattle.tva_log.specs.Next.{IsWorkAt}
+use Rattle.tva_run.specs.declared.kinds.Input.{Input}
+use Rattle.tva_run.specs.Sites.{Site, IsSite}
+use Rattle.tva_run.specs.Entries.{Entry}
+use Rattle.tva_run.specs.NodeLog.{IsNodeLog, in_turn}
+use Rattle.tva_run.specs.Told.{events, sendings}
+use Rattle.tva_run.specs.Next.{IsWorkAt}
 use Rattle.tva_node.specs.Besides.{StandsBesides}
 pub use Rattle.tva_node.specs.Nodes.{AreLeft, Fits, FitsRow, Gone, Holds, KeepsAll, NodeState}
 pub use Rattle.tva_node.specs.Nodes.{all_given, all_told, gone_after, gone_by, gone_in, news, none_gone, restarts_in, role_plan, unsent}

@@ -15,13 +15,13 @@ use Rattle.tva_port.specs.Decide.{decision}
 use Rattle.tva_router.specs.Handling.{offered, outcome_of}
 use Rattle.tva_router.specs.Stands as router
 use Rattle.tva_host.specs.declared.made.Made.{Made}
-use Rattle.tva_log.specs.declared.kinds.Input.{Input}
-use Rattle.tva_log.specs.Sites.{Site, IsSite}
-use Rattle.tva_log.specs.Entries.{Content, Entry, Took, Started, input_time}
-use Rattle.tva_log.specs.Parts.{port_logs}
-use Rattle.tva_log.specs.Contents.{content, routed, hosted}
-use Rattle.tva_log.specs.Told.{events, sendings, content_told}
-use Rattle.tva_log.specs.AtTime.{IsAt}
+use Rattle.tva_run.specs.declared.kinds.Input.{Input}
+use Rattle.tva_run.specs.Sites.{Site, IsSite}
+use Rattle.tva_run.specs.Entries.{Content, Entry, Took, Started, input_time}
+use Rattle.tva_run.specs.Parts.{port_logs}
+use Rattle.tva_run.specs.Contents.{content, routed, hosted}
+use Rattle.tva_run.specs.Told.{events, sendings, content_told}
+use Rattle.tva_run.specs.AtTime.{IsAt}
 use Rattle.tva_node.specs.declared.role.Role.{Role}
 use Rattle.tva_node.specs.declared.role.Role.TheVariants as roles
 use Rattle.tva_node.specs.declared.role.Routed.{Routed}

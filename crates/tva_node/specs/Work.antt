@@ -9,12 +9,12 @@ use Rattle.tva_base.specs.declared.packet.Outcome.{Outcome}
 use Rattle.tva_base.specs.declared.packet.Outcome.TheVariants.{Queued, Dropped}
 use Rattle.tva_base.specs.declared.packet.Class.{Class}
 use Rattle.tva_shim.specs.Packets.{PacketData, packet_length}
-use Rattle.tva_log.specs.declared.kinds.Sending.{Sending}
-use Rattle.tva_log.specs.Told.{at_time}
-use Rattle.tva_log.specs.declared.kinds.Input.{Input}
-use Rattle.tva_log.specs.Entries.{Entry, input_time}
-use Rattle.tva_log.specs.Sites.{Site}
-use Rattle.tva_log.specs.NodeLog.{in_turn, due}
+use Rattle.tva_run.specs.declared.kinds.Sending.{Sending}
+use Rattle.tva_run.specs.Told.{at_time}
+use Rattle.tva_run.specs.declared.kinds.Input.{Input}
+use Rattle.tva_run.specs.Entries.{Entry, input_time}
+use Rattle.tva_run.specs.Sites.{Site}
+use Rattle.tva_run.specs.NodeLog.{in_turn, due}
 pub use Rattle.tva_waiting.specs.Inputs.{first_time}
 use Rattle.tva_node.specs.declared.links.Link.{Link}
 use Rattle.tva_node.specs.Links.{least_next, sooner}

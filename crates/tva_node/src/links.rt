@@ -1,7 +1,7 @@
 // The links out of a node, and when each of them decides next by itself.
 ghost use Rattle.std.specs.Prelude.{◌≡◌, ◌≤◌, ◌<◌, All, IfOk, Some, get_or, length, map};
 ghost use Rattle.tva_base.specs.Plan.{links_of};
-ghost use Rattle.tva_log.specs.Sites.{AreRising};
+ghost use Rattle.tva_run.specs.Sites.{AreRising};
 ghost use Rattle.tva_node.specs.Links.{AreNoKeys, IsFirstAsked, IsKey, IsRankOf, asked_by, first_link, is_asked, least_next, with_next};
 ghost use Rattle.tva_node.specs.Pairs.{link_pair};
 

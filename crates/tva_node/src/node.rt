@@ -2,11 +2,11 @@
 ghost use Rattle.std.specs.Prelude.{◌≡◌, ◌≤◌, ◌<◌, ◌+◌, ◌∷◌, [], ◌++◌, None, drop, length, slice_index_or, map, min, max, List, IfOk, IfSome, OnErr, OnOk};
 ghost use Rattle.tva_base.specs.Plan.{AreRising};
 ghost use Rattle.tva_rows.specs.declared.rows.Row.{Row};
-ghost use Rattle.tva_log.specs.Entries.{Entry, input_time};
-ghost use Rattle.tva_log.specs.declared.kinds.Input.TheVariants.{FromTrace};
+ghost use Rattle.tva_run.specs.Entries.{Entry, input_time};
+ghost use Rattle.tva_run.specs.declared.kinds.Input.TheVariants.{FromTrace};
 ghost use Rattle.tva_waiting.specs.Inputs.{arrived};
-ghost use Rattle.tva_log.specs.NodeLog.{in_turn};
-ghost use Rattle.tva_log.specs.Sites.{IsSite, site_of};
+ghost use Rattle.tva_run.specs.NodeLog.{in_turn};
+ghost use Rattle.tva_run.specs.Sites.{IsSite, site_of};
 ghost use Rattle.tva_waiting.specs.declared.memory.Memory.TheVariants as memory;
 ghost use Rattle.tva_node.specs.Besides.{IsBy, RoleStands};
 ghost use Rattle.tva_node.specs.States.{Fits, FitsRow, IsAsBefore, IsFirstWork, Keeps, KeepsAll, Stands, StandsFor, all_given, gone_after, news, none_gone, restarts_in, role_plan, router_in, unsent};
@@ -19,14 +19,13 @@ use crate::role::{Hosted, Role, Routed};
 use std::alloc::{AllocError, Global};
 use std::marker::Model;
 use tva_base::{Event, LinkPlan, Time};
-use tva_log::{Input, Sending};
-use tva_past::Kept;
 use tva_plan::NodePlan;
 use tva_port::HandPort;
 use tva_router::HandRouter;
 use tva_rows::{PackedRows, Row};
+use tva_run::{Input, Sending};
 use tva_transfer::Courier;
-use tva_waiting::{Flight, Inbox, Memory, Waiting};
+use tva_waiting::{Flight, Inbox, Kept, Memory, Waiting};
 
 // An event at a router costs about as much as so many at a host.
 const ROUTER_EVENT: u64 = 3;

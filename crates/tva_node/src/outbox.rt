@@ -5,9 +5,8 @@ ghost use Rattle.tva_node.specs.Outbox.{gone_sendings, with_sent};
 
 use std::alloc::{AllocError, Global};
 use std::marker::Model;
-use tva_log::Sending;
-use tva_past::Kept;
-use tva_waiting::{Flight, Memory};
+use tva_run::Sending;
+use tva_waiting::{Flight, Kept, Memory};
 
 /// All that a node's links sent, and what memory keeps of it: all, as it is; or what was not handed over
 /// yet, as packets on their way, which are small and move.

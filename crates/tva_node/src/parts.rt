@@ -2,7 +2,7 @@
 ghost use Rattle.std.specs.Prelude.{◌≡◌, ◌≢◌, ◌≤◌, ◌<◌, ◌+◌, ◌∷◌, [], ◌++◌, min, max, map, Some, None, true, IfSome, IsSome, OnOk, length, get_or};
 ghost use Rattle.tva_shim.specs.Packets.{PacketData, packet_length};
 ghost use Rattle.tva_node.specs.declared.links.Link.{Link};
-ghost use Rattle.tva_past.specs.Kept.{with_more};
+ghost use Rattle.tva_waiting.specs.Kept.{with_more};
 ghost use Rattle.tva_base.specs.Plan.{AreRising, links_of};
 ghost use Rattle.tva_node.specs.Pairs.{link_pair};
 ghost use Rattle.tva_node.specs.Links.{asked_by, sooner, with_next};
@@ -15,9 +15,8 @@ use crate::role::Role;
 use std::alloc::{AllocError, Global};
 use std::cmp;
 use tva_base::{Class, Event, Happened, Outcome, Time};
-use tva_past::Kept;
 use tva_port::{Hand, Next, id_in, length_in};
-use tva_waiting::{Flight, Inbox, Waiting};
+use tva_waiting::{Flight, Inbox, Kept, Waiting};
 
 /// A node's inputs, its sendings and its events; its inputs that are not taken yet, and its links out by
 /// their numbers; the time up to which it is worked and the horizon, in nanoseconds; its number, what it

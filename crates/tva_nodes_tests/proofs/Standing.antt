@@ -1,7 +1,5 @@
 -- One more node that stands.
-use Rattle.std.proofs.Common.{List, [], ◌∷◌, ◌++◌}
-use Rattle.std.specs.List.{AllByRecursion}
-use Rattle.tva_node.specs.States.{NodeState, Stands}
+use Rattle.tva_nodes_tests.proofs.Common.{List, [], ◌∷◌, ◌++◌, AllByRecursion, NodeState, Stands}
 
 pub one_more : (vs : List NodeState) (v : NodeState) → AllByRecursion Stands vs → Stands v → AllByRecursion Stands (vs ++ v ∷ [])
 one_more [] v all s = (s, tt)

@@ -7,6 +7,7 @@ ghost use Rattle.tva_plan.specs.Valid.{IsConfig};
 mod at_once;
 mod calls;
 mod keeping;
+mod kept;
 mod watch;
 
 use std::alloc::Global;

@@ -1,2 +1,4 @@
+mod base;
 mod capabilities;
 mod shims;
+mod texts;

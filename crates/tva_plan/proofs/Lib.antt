@@ -1,2 +1,3 @@
+mod Common
 pub mod Named
 pub mod Wired

@@ -1,8 +1,7 @@
 -- Which node has a name.
-use Rattle.std.proofs.Common.{◌≡◌, ◌∙◌, sym, ap, refl, ℕ, suc, ◌+◌, ◌<◌, List, [], ◌∷◌, length, get_or, drop, drop-cons, cond, true, false, Bool, Option, Some, None, IfSome, arith, add-one}
+use Rattle.tva_plan.proofs.Common.{◌≡◌, ◌∙◌, sym, ap, refl, ℕ, suc, ◌+◌, ◌<◌, List, [], ◌∷◌, length, get_or, drop, drop-cons, cond, true, false, Bool, Option, Some, None, IfSome, arith, add-one, name_at, named_from}
 use Rattle.std.specs.Str.{bytes_eq}
 use Rattle.tva_plan.specs.declared.config.NodePlan.{NodePlan}
-use Rattle.tva_plan.specs.Names.{name_at, named_from}
 
 -- the first of the plans that are left has the name, or one of those behind it
 named_from-drop : (plans : List NodePlan) (n : ℕ) (plan : NodePlan) (name : List ℕ) → n < length plans → plan ≡ get_or plans n plan → named_from name n (drop n plans) ≡ cond (bytes_eq (name_at plan) name) (Some n) (named_from name (n + 1) (drop (n + 1) plans))

@@ -1,5 +1,5 @@
 -- What a valid configuration says of the node of a number: its plan, and its links.
-use Rattle.std.proofs.Common.{◌≡◌, ◌≤◌, ◌==◌, ℕ, zero, suc, ◌+◌, Bool, true, false, cond, List, [], ◌∷◌, length, slice_get, Option, Some, None, All, Contains, refl, ap, sym, ◌∙◌, subst, arith}
+use Rattle.tva_plan.proofs.Common.{◌≡◌, ◌≤◌, ◌==◌, ℕ, zero, suc, ◌+◌, Bool, true, false, cond, List, [], ◌∷◌, length, slice_get, Option, Some, None, All, Contains, refl, ap, sym, ◌∙◌, subst, arith, is_host_plan}
 use Rattle.std.specs.List.{cons_option}
 use Rattle.std.proofs.lemmas.Bool.{eqb-true, eq-eqb}
 use Rattle.std.proofs.lemmas.Option.{slice_get_within, get_or_from_slice_get}
@@ -11,7 +11,6 @@ use Rattle.tva_plan.specs.declared.config.Config.{Config}
 use Rattle.tva_plan.specs.declared.config.NodePlan as nodes
 use Rattle.tva_plan.specs.declared.config.NodePlan.TheVariants as node
 use Rattle.tva_plan.specs.Wiring.{picked, number_from, links_from, incoming_of, outgoing_of}
-use Rattle.tva_plan.specs.Names.{is_host_plan}
 use Rattle.tva_plan.specs.Valid.{IsNodePlan, IsLinkPlan, IsWired, AreWired, AreRoutersFirst, IsConfig}
 
 -- what holds of all elements holds of the one at a place

@@ -1,13 +1,7 @@
 -- Look-ups by a comparison find what look-ups by a test find.
-use Rattle.std.proofs.Common.{◌≡◌, ℕ, ◌||◌, Bool, true, cond, eqb, List, [], ◌∷◌, Option, Some, refl, ap, sym, ◌∙◌, ◌+◌, arith}
-use Rattle.std.specs.List.{list_any}
+use Rattle.tva_policy.proofs.Common.{◌≡◌, ℕ, ◌||◌, Bool, true, cond, eqb, List, [], ◌∷◌, Option, Some, refl, ap, sym, ◌∙◌, ◌+◌, arith, list_any, is_eq, nat_cmp, nat_tests, Address, has_address, has_tag, grants_kept}
 use Rattle.std.specs.Map.{lookup}
 use Rattle.std.specs.Option.{unwrap_or}
-use Rattle.std.specs.Ordering.{is_eq, nat_cmp}
-use Rattle.std.proofs.lemmas.Bool.Decides.{nat_tests}
-use Rattle.tva_base.specs.declared.addresses.Address.{Address}
-use Rattle.tva_policy.specs.Grants.{has_address, has_tag}
-use Rattle.tva_policy.specs.Notes.{grants_kept}
 
 -- tests that agree find the same
 pub list_any_same : {X : Type 0} (p q : X → Bool) → ((x : X) → p x ≡ q x) → (xs : List X) → list_any p xs ≡ list_any q xs

@@ -1,3 +1,4 @@
+mod Common
 pub mod Compared
 pub mod Keeping
 pub mod Noted

@@ -1,11 +1,5 @@
 -- A destination that is noted again decides nothing.
-use Rattle.std.proofs.Common.{◌≡◌, ℕ, true, cond, List, ◌∷◌, ◌++◌, refl, ap, sym, ◌∙◌, arith}
-use Rattle.std.proofs.lemmas.List.Folds.{list_any-append}
-use Rattle.std.proofs.lemmas.List.Sums.{sum_by-append}
-use Rattle.std.proofs.lemmas.Bool.Decides.{nat_tests}
-use Rattle.tva_base.specs.declared.addresses.Address.{Address}
-use Rattle.tva_base.specs.declared.plan.PolicyPlan.{PolicyPlan}
-use Rattle.tva_policy.specs.Grants.{Deed, Sent, is_sending_to, is_grant_to, was_sent_to, grants_before, is_granted, grant_decision}
+use Rattle.tva_policy.proofs.Common.{◌≡◌, ℕ, true, cond, List, ◌∷◌, ◌++◌, refl, ap, sym, ◌∙◌, arith, list_any-append, sum_by-append, nat_tests, Address, PolicyPlan, Deed, Sent, is_sending_to, is_grant_to, was_sent_to, grants_before, is_granted, grant_decision}
 
 same_sent : (h : List Deed) (a dst : Address) → a.0 ≡ dst.0 → was_sent_to h a ≡ was_sent_to h dst
 same_sent h a dst e = ap (λ (n : ℕ). was_sent_to h (record { 0 = n })) e

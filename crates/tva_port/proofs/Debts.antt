@@ -1,10 +1,6 @@
 -- The debt, once time goes on and once one more request starts.
-use Rattle.std.proofs.Common.{◌≡◌, ℕ, ◌+◌, ◌-◌, ◌≤◌, Bool, true, false, ◌&&◌, leb, cond, List, [], ◌∷◌, ◌++◌, sym, subst, inl, inr, filter, arith}
-use Rattle.std.proofs.lemmas.Bool.Decides.{leb_tells}
-use Rattle.std.proofs.lemmas.List.Sums.{sum_by-cons, sum_by_push}
-use Rattle.tva_base.specs.declared.limits.LinkLimits.{LinkLimits}
-use Rattle.tva_port.specs.Requests.{Start, cost, costs, debt}
-use Rattle.tva_port.specs.Keeps.{is_between}
+use Rattle.tva_port.proofs.Common.{◌≡◌, ℕ, ◌+◌, ◌-◌, ◌≤◌, Bool, true, false, ◌&&◌, leb, cond, List, [], ◌∷◌, ◌++◌, sym, subst, inl, inr, filter, arith, leb_tells, sum_by-cons, sum_by_push, LinkLimits, cost, costs, debt, is_between}
+use Rattle.tva_port.specs.Requests.{Start}
 
 -- no start is later than that
 abbrev pub AreBy : ℕ → List Start → Type 0

@@ -1,17 +1,5 @@
 -- What a decision to start a packet tells, and what one to start none tells.
-use Rattle.std.proofs.Common.{◌≡◌, ℕ, ◌<◌, ◌≤◌, true, false, cond, Option, Some, None, refl, sym, ap, ◌∙◌, subst, inl, inr, arith}
-use Rattle.std.proofs.lemmas.Bool.Decides.{leb_tells}
-use Rattle.tva_base.specs.declared.limits.LinkLimits.{LinkLimits}
-use Rattle.tva_base.specs.declared.packet.Class.{Class}
-use Rattle.tva_base.specs.declared.packet.Class.TheVariants.{Request, Regular, Legacy}
-use Rattle.tva_shim.specs.Packets.{PacketData, packet_length}
-use Rattle.tva_drr.specs.Queues.{first, head}
-use Rattle.tva_port.specs.declared.decision.Decision.{Decision}
-use Rattle.tva_port.specs.declared.decision.Decision.TheVariants.{Start}
-use Rattle.tva_port.specs.Requests.{cost}
-use Rattle.tva_port.specs.Levels.{next_in}
-use Rattle.tva_port.specs.Waiting.{Waiting}
-use Rattle.tva_port.specs.Decide.{covered, start_or, wait_for, decide_on, is_start}
+use Rattle.tva_port.proofs.Common.{◌≡◌, ℕ, ◌<◌, ◌≤◌, true, false, cond, Option, Some, None, refl, sym, ap, ◌∙◌, subst, inl, inr, arith, leb_tells, LinkLimits, Class, Request, Regular, Legacy, PacketData, packet_length, first, head, Decision, Start, cost, next_in, Waiting, covered, start_or, wait_for, decide_on, is_start}
 
 abbrev pub pick : Class → Option PacketData → Option PacketData → Option PacketData → Option PacketData
 pick Request a b c = a

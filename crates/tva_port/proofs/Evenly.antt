@@ -1,30 +1,7 @@
 -- Two queues of a class that are never empty send about as much as each other.
-use Rattle.std.proofs.Common.{◌≡◌, ◌≢◌, ℕ, ◌+◌, ◌*◌, ◌<◌, true, ◌&&◌, cond, List, [], ◌∷◌, ◌++◌, Some, None, refl, sym, ap, ◌∙◌, subst, zero-add, arith}
-use Rattle.tva_base.specs.declared.limits.DrrLimits.{DrrLimits}
-use Rattle.tva_base.specs.declared.limits.LinkLimits.{LinkLimits}
-use Rattle.tva_base.specs.declared.packet.Class.{Class}
-use Rattle.tva_base.specs.declared.packet.Class.TheVariants.{Request, Regular, Legacy}
-use Rattle.tva_base.specs.Plan.{AreLinkLimits}
-use Rattle.tva_shim.specs.Packets.{PacketData, packet_length}
-use Rattle.tva_drr.specs.Queues.{Queue, Fair, fair, has_key, head}
-use Rattle.tva_drr.specs.Offer.{put, lacks_queue, lacks_room, offer_leaves}
-use Rattle.tva_drr.specs.Take.{take_leaves}
-use Rattle.tva_drr.specs.Fair.{IsFair}
+use Rattle.tva_port.proofs.Common.{◌≡◌, ◌≢◌, ℕ, ◌+◌, ◌*◌, ◌<◌, true, ◌&&◌, cond, List, [], ◌∷◌, ◌++◌, Some, None, refl, sym, ap, ◌∙◌, subst, zero-add, arith, DrrLimits, LinkLimits, Class, Request, Regular, Legacy, AreLinkLimits, PacketData, packet_length, Queue, Fair, fair, has_key, head, put, lacks_queue, lacks_room, offer_leaves, take_leaves, IsFair, Step, Offer, Take, is_front, head_bytes, AreOffers, bytes_from, by_test, offer_cases, head_some, RequestQueues, OneLevel, TwoLevels, next_in, single_queues, Entry, Queued, Started, same_class, request_step, waiting_after, credit_after, Follows, AllFollow, IsStarted, IsLegal, AreWithin, IsWithinLimits, class_queues, bytes_started, IsNeverEmpty}
 use Rattle.tva_drr.specs.Service as drr
-use Rattle.tva_drr.specs.Service.{Step, Offer, Take, is_front, head_bytes, AreOffers, bytes_from}
-use Rattle.tva_drr.proofs.Falling.{by_test}
-use Rattle.tva_drr.proofs.Until.{offer_cases}
 use Rattle.tva_drr.proofs.Fairness.{fairly}
-use Rattle.tva_hier.proofs.Keeping.{head_some}
-use Rattle.tva_port.specs.declared.requests.RequestQueues.{RequestQueues}
-use Rattle.tva_port.specs.declared.requests.RequestQueues.TheVariants.{OneLevel, TwoLevels}
-use Rattle.tva_port.specs.Levels.{next_in, single_queues}
-use Rattle.tva_port.specs.Log.{Entry, Queued, Started}
-use Rattle.tva_port.specs.Waiting.{same_class, request_step, waiting_after}
-use Rattle.tva_port.specs.Decide.{credit_after}
-use Rattle.tva_port.specs.Legal.{Follows, AllFollow, IsStarted, IsLegal}
-use Rattle.tva_port.specs.Keeps.{AreWithin, IsWithinLimits}
-use Rattle.tva_port.specs.Bounds.{class_queues, bytes_started, IsNeverEmpty}
 use Rattle.tva_port.proofs.Logs.{legal-front, fair_step, requests-push, goes_on-push}
 use Rattle.tva_port.proofs.Deciding.{covered_pays}
 use Rattle.tva_port.proofs.Legality.{started_is}

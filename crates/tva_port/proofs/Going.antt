@@ -1,41 +1,13 @@
 -- A link while a packet waits: what its log says of each time, and of each start, where the packet is queued, and what
 -- then goes before it.
-use Rattle.std.proofs.Common.{◌≡◌, ℕ, zero, suc, ◌+◌, ◌*◌, ◌<◌, ◌≤◌, true, false, cond, ltb, List, [], ◌∷◌, ◌++◌, drop, Option, Some, None, refl, sym, ap, ◌∙◌, subst, inl, inr, arith, append-nil, mul_assoc, ◌-◌, Bool, length, length-append, append_assoc}
-use Rattle.std.specs.List.{filter_map}
-use Rattle.std.proofs.Math.Nat.{mul-le-mul_right, add-mul, mul_comm}
-use Rattle.std.proofs.lemmas.Bool.Decides.{leb_tells}
-use Rattle.std.proofs.lemmas.List.Elements.{filter-append}
-use Rattle.tva_base.specs.declared.limits.LinkLimits.{LinkLimits}
-use Rattle.tva_base.specs.declared.packet.Class.{Class}
-use Rattle.tva_base.specs.declared.packet.Class.TheVariants.{Request, Regular, Legacy}
-use Rattle.tva_base.specs.Plan.{AreLinkLimits}
-use Rattle.tva_shim.specs.Packets.{PacketData, packet_length}
-use Rattle.tva_drr.specs.Queues.{first, head, Fair, fair, items_of, bytes_in}
-use Rattle.tva_port.specs.declared.decision.Decision.{Decision}
-use Rattle.tva_port.specs.declared.decision.Decision.TheVariants.{Start}
-use Rattle.tva_port.specs.Requests.{cost}
-use Rattle.tva_port.specs.Levels.{next_in, request_answer, request_leaves, requests_with}
-use Rattle.tva_port.specs.Log.{Entry, Queued, Started, entry_time, NoneLater, entries_before, free_after}
-use Rattle.tva_port.specs.Waiting.{waiting_after, queued_legacy}
-use Rattle.tva_port.specs.Decide.{covered, start_or, decision, credit_after, is_start, RestsAt, MissesNone}
-use Rattle.tva_port.specs.Legal.{Follows, AllFollow, IsStarted, IsLegal, IsQueued}
-use Rattle.tva_port.specs.Bounds.{starts_first, start_among, waiting_with, requests_until, StartsBy}
+use Rattle.tva_port.proofs.Common.{◌≡◌, ℕ, zero, suc, ◌+◌, ◌*◌, ◌<◌, ◌≤◌, true, false, cond, ltb, List, [], ◌∷◌, ◌++◌, drop, Option, Some, None, refl, sym, ap, ◌∙◌, subst, inl, inr, arith, append-nil, mul_assoc, ◌-◌, Bool, length, length-append, append_assoc, filter_map, mul-le-mul_right, add-mul, mul_comm, leb_tells, filter-append, LinkLimits, Class, Request, Regular, Legacy, AreLinkLimits, PacketData, packet_length, first, head, Fair, fair, items_of, bytes_in, Decision, Start, cost, next_in, request_answer, request_leaves, requests_with, Entry, Queued, Started, entry_time, NoneLater, entries_before, free_after, waiting_after, queued_legacy, covered, start_or, decision, credit_after, is_start, RestsAt, MissesNone, Follows, AllFollow, IsStarted, IsLegal, IsQueued, starts_first, start_among, waiting_with, requests_until, StartsBy, DrrLimits, lacks_queue, lacks_room, offer_answer, offer_leaves, most_until, goes_last, inner_key_of, offered_is, left_last, RequestQueues, OneLevel, TwoLevels}
 use Rattle.tva_port.proofs.Logs.{later-front, entries_before-all, free-queued, free-started, legal-all, queued-push, goes_on-push, legal-front, requests-push, regulars-push}
 use Rattle.tva_port.proofs.Deciding.{Rests, none_starts, covered_pays}
 use Rattle.tva_port.proofs.Legality.{started_is}
 use Rattle.tva_port.proofs.Levels.{head_sized, request_sized}
 use Rattle.tva_port.proofs.Idling.{within}
 use Rattle.tva_port.proofs.Tracking.{regulars_now, IsQueueing, kept_within, most_of_requests, Tracks, tracks_first}
-use Rattle.tva_base.specs.declared.limits.DrrLimits.{DrrLimits}
 use Rattle.tva_drr.specs.declared.offered.Offered.TheVariants as offers
-use Rattle.tva_drr.specs.Offer.{lacks_queue, lacks_room, offer_answer, offer_leaves}
-use Rattle.tva_drr.specs.Service.{most_until}
-use Rattle.tva_drr.proofs.OrderLaws.{goes_last}
-use Rattle.tva_shim.specs.Shows.{inner_key_of}
-use Rattle.tva_hier.proofs.GroupLists.{offered_is}
-use Rattle.tva_hier.proofs.Offering.{left_last}
-use Rattle.tva_port.specs.declared.requests.RequestQueues.{RequestQueues}
-use Rattle.tva_port.specs.declared.requests.RequestQueues.TheVariants.{OneLevel, TwoLevels}
 use Rattle.tva_port.proofs.Stocked.{queued_tests}
 
 -- ## costs

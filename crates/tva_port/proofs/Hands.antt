@@ -1,26 +1,7 @@
 -- What is known of a packet in the caller's hand.
-use Rattle.std.proofs.Common.{◌≡◌, ℕ, Bool, true, false, cond, Option, Some, None, refl, sym, ap, true≢false}
-use Rattle.std.specs.Prelude.{IsSome}
-use Rattle.tva_base.specs.declared.limits.LinkLimits.{LinkLimits}
-use Rattle.tva_base.specs.declared.packet.Class.{Class}
-use Rattle.tva_base.specs.declared.packet.Class.TheVariants.{Request, Regular, Legacy}
-use Rattle.tva_shim.specs.Packets.{PacketData, packet_length}
-use Rattle.tva_shim.specs.Shows.{inner_key_of}
-use Rattle.tva_drr.specs.declared.offered.Offered.{Offered}
+use Rattle.tva_port.proofs.Common.{◌≡◌, ℕ, Bool, true, false, cond, Option, Some, None, refl, sym, ap, true≢false, IsSome, LinkLimits, Class, Request, Regular, Legacy, PacketData, packet_length, inner_key_of, Offered, lacks_queue, lacks_room, lacks_place, lacks_space, RequestQueues, OneLevel, TwoLevels, Answer, AreOneAnswer, answer_by, kept_by, request_answer, Decision, Start, WaitUntil, Idle, Waiting, lacks_legacy_room, queue_answer, is_start, decision_leaves, freed}
 use Rattle.tva_drr.specs.declared.offered.Offered.TheVariants as offers
-use Rattle.tva_drr.specs.Offer.{lacks_queue, lacks_room}
-use Rattle.tva_hier.specs.Offer.{lacks_place, lacks_space}
-use Rattle.tva_port.specs.declared.requests.RequestQueues.{RequestQueues}
-use Rattle.tva_port.specs.declared.requests.RequestQueues.TheVariants.{OneLevel, TwoLevels}
-use Rattle.tva_port.specs.declared.hand.Answer.{Answer}
 use Rattle.tva_port.specs.declared.hand.Answer.TheVariants as answers
-use Rattle.tva_port.specs.Hand.{AreOneAnswer, answer_by, kept_by}
-use Rattle.tva_port.specs.Levels.{request_answer}
-use Rattle.tva_port.specs.declared.decision.Decision.{Decision}
-use Rattle.tva_port.specs.declared.decision.Decision.TheVariants.{Start, WaitUntil, Idle}
-use Rattle.tva_port.specs.Waiting.{Waiting, lacks_legacy_room, queue_answer}
-use Rattle.tva_port.specs.Decide.{is_start}
-use Rattle.tva_port.specs.Steps.{decision_leaves, freed}
 
 pub same_packet : (hand : Option PacketData) (one other : PacketData) → hand ≡ Some one → hand ≡ Some other → one ≡ other
 same_packet hand one other e f = cc

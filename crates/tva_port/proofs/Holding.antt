@@ -1,22 +1,5 @@
 -- What holds of each packet that is offered holds of those that wait, and of the next.
-use Rattle.std.proofs.Common.{◌≡◌, ℕ, ◌-◌, Bool, true, false, cond, List, [], ◌∷◌, ◌++◌, Option, Some, None, subst}
-use Rattle.std.specs.Prelude.{nat_lt, ◌==◌}
-use Rattle.std.specs.List.{AllByRecursion}
-use Rattle.tva_base.specs.declared.limits.DrrLimits.{DrrLimits}
-use Rattle.tva_base.specs.declared.limits.LinkLimits.{LinkLimits}
-use Rattle.tva_shim.specs.Packets.{PacketData, packet_length}
-use Rattle.tva_shim.specs.Shows.{inner_key_of}
-use Rattle.tva_drr.specs.Queues.{Queue, Fair, queue, fair, first, head}
-use Rattle.tva_drr.specs.Offer.{lacks_queue, lacks_room, put, offer_leaves}
-use Rattle.tva_drr.specs.Take.{refilled, popped, settled, front_settled, taken, take_leaves}
-use Rattle.tva_drr.specs.Service.{first_bytes}
-use Rattle.tva_drr.proofs.Until.{offer_cases}
-use Rattle.tva_hier.specs.Groups.{Group, Hier, group, hier, inner_limits, next}
-use Rattle.tva_hier.specs.Offer.{lacks_place, lacks_space, changed, put_under, left_by_offer}
-use Rattle.tva_hier.specs.Take.{group_refilled, group_popped, group_settled, groups_taken}
-use Rattle.tva_port.specs.declared.requests.RequestQueues.{RequestQueues}
-use Rattle.tva_port.specs.declared.requests.RequestQueues.TheVariants.{OneLevel, TwoLevels}
-use Rattle.tva_port.specs.Levels.{none_under, no_requests, next_in, request_leaves, request_taken}
+use Rattle.tva_port.proofs.Common.{◌≡◌, ℕ, ◌-◌, Bool, true, false, cond, List, [], ◌∷◌, ◌++◌, Option, Some, None, subst, nat_lt, ◌==◌, AllByRecursion, DrrLimits, LinkLimits, PacketData, packet_length, inner_key_of, Queue, Fair, queue, fair, first, head, lacks_queue, lacks_room, put, offer_leaves, refilled, popped, settled, front_settled, taken, take_leaves, first_bytes, offer_cases, Group, Hier, group, hier, inner_limits, next, lacks_place, lacks_space, changed, put_under, left_by_offer, group_refilled, group_popped, group_settled, groups_taken, RequestQueues, OneLevel, TwoLevels, none_under, no_requests, next_in, request_leaves, request_taken}
 
 each_more : {A : Type 0} (P : A → Type 0) (xs : List A) (x : A) → AllByRecursion P xs → P x
     → AllByRecursion P (xs ++ x ∷ [])

@@ -1,18 +1,5 @@
 -- A link is idle exactly where nothing waits, and waits only where requests alone wait.
-use Rattle.std.proofs.Common.{◌≡◌, ℕ, ◌↔◌, List, [], ◌∷◌, Option, None, refl, sym, ap, ◌∙◌, append-nil}
-use Rattle.tva_base.specs.declared.limits.LinkLimits.{LinkLimits}
-use Rattle.tva_base.specs.declared.packet.Time.{Time}
-use Rattle.tva_base.specs.Plan.{AreLinkLimits}
-use Rattle.tva_shim.specs.Packets.{PacketData}
-use Rattle.tva_drr.specs.Queues.{Queue, first, head}
-use Rattle.tva_port.specs.declared.decision.Decision.{Decision}
-use Rattle.tva_port.specs.declared.decision.Decision.TheVariants.{WaitUntil, Idle}
-use Rattle.tva_port.specs.Levels.{next_in}
-use Rattle.tva_port.specs.Log.{Entry}
-use Rattle.tva_port.specs.Waiting.{Waiting, waiting_after, IsEmpty, IsRequestAlone}
-use Rattle.tva_port.specs.Decide.{covered, wait_for, decision, credit_after, is_start}
-use Rattle.tva_port.specs.Legal.{IsLegal}
-use Rattle.tva_port.specs.Keeps.{IsWithinLimits}
+use Rattle.tva_port.proofs.Common.{◌≡◌, ℕ, ◌↔◌, List, [], ◌∷◌, Option, None, refl, sym, ap, ◌∙◌, append-nil, LinkLimits, Time, AreLinkLimits, PacketData, Queue, first, head, Decision, WaitUntil, Idle, next_in, Entry, Waiting, waiting_after, IsEmpty, IsRequestAlone, covered, wait_for, decision, credit_after, is_start, IsLegal, IsWithinLimits}
 use Rattle.tva_port.proofs.Deciding.{Rests, rests_is}
 use Rattle.tva_port.proofs.Resting.{resting, wait_is, idle_is}
 use Rattle.tva_port.proofs.Limits.{stays_within}

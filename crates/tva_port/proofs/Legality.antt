@@ -1,24 +1,8 @@
 -- What every legal log keeps: no more legacy packets start than were queued, the debt never passes the
 -- cap, the requests keep their rate, and no two packets start at one time.
-use Rattle.std.proofs.Common.{◌≡◌, ℕ, ◌+◌, ◌-◌, ◌*◌, ◌≤◌, ◌<◌, cond, List, [], ◌∷◌, ◌++◌, length, drop, filter, Some, refl, sym, ap, ◌∙◌, subst, zero, suc, arith, append-nil}
-use Rattle.std.specs.List.{filter_map, count_by, All}
-use Rattle.std.proofs.Math.Nat.{mul-le-mul}
-use Rattle.tva_base.specs.Plan.{AreLinkLimits}
+use Rattle.tva_port.proofs.Common.{◌≡◌, ℕ, ◌+◌, ◌-◌, ◌*◌, ◌≤◌, ◌<◌, cond, List, [], ◌∷◌, ◌++◌, length, drop, filter, Some, refl, sym, ap, ◌∙◌, subst, zero, suc, arith, append-nil, filter_map, count_by, All, mul-le-mul, AreLinkLimits, sum_by_push, filter-append, filter_map-append, All-nil, All-head, All-tail, All-push, All-weaker, LinkLimits, Class, Request, Regular, Legacy, PacketData, packet_length, first, start, cost, costs, debt, cap, next_in, Entry, Queued, Started, NoneLater, request_starts, free_after, queued_legacy, is_legacy_start, waiting_after, decision, credit_after, IsStarted, Follows, IsLegal, is_between, IsWithinRate, start_time, start_times, AreRising}
 use Rattle.std.proofs.lemmas.List.{length-append}
-use Rattle.std.proofs.lemmas.List.Sums.{sum_by_push}
-use Rattle.std.proofs.lemmas.List.Elements.{filter-append, filter_map-append, All-nil, All-head, All-tail, All-push, All-weaker}
-use Rattle.tva_base.specs.declared.limits.LinkLimits.{LinkLimits}
-use Rattle.tva_base.specs.declared.packet.Class.{Class}
-use Rattle.tva_base.specs.declared.packet.Class.TheVariants.{Request, Regular, Legacy}
-use Rattle.tva_shim.specs.Packets.{PacketData, packet_length}
-use Rattle.tva_drr.specs.Queues.{first}
-use Rattle.tva_port.specs.Requests.{Start, start, cost, costs, debt, cap}
-use Rattle.tva_port.specs.Levels.{next_in}
-use Rattle.tva_port.specs.Log.{Entry, Queued, Started, NoneLater, request_starts, free_after}
-use Rattle.tva_port.specs.Waiting.{queued_legacy, is_legacy_start, waiting_after}
-use Rattle.tva_port.specs.Decide.{decision, credit_after}
-use Rattle.tva_port.specs.Legal.{IsStarted, Follows, IsLegal}
-use Rattle.tva_port.specs.Keeps.{is_between, IsWithinRate, start_time, start_times, AreRising}
+use Rattle.tva_port.specs.Requests.{Start}
 use Rattle.tva_port.proofs.Debts.{AreBy, cost_at, debt-push, by_between, costs_owed}
 use Rattle.tva_port.proofs.Logs.{later-front, starts_by, starts-push, starts-same, free-queued, free-started, FewStarted, count-push, queued-push, legal-all}
 use Rattle.tva_port.proofs.Deciding.{next_of, start_is, covered_pays}

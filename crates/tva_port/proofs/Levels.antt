@@ -1,17 +1,5 @@
 -- The next request, in queues of one level or of two.
-use Rattle.std.proofs.Common.{◌≡◌, ℕ, ◌≤◌, List, [], ◌∷◌, length, Option, Some, None, refl, sym, ap, ◌∙◌, subst, arith}
-use Rattle.tva_base.specs.declared.limits.DrrLimits.{DrrLimits}
-use Rattle.tva_base.specs.declared.limits.LinkLimits.{LinkLimits}
-use Rattle.tva_shim.specs.Packets.{PacketData, packet_length}
-use Rattle.tva_drr.specs.Queues.{Queue, first, head}
-use Rattle.tva_drr.specs.Fair.{AreMeasured, AreQueues, AreFair}
-use Rattle.tva_hier.specs.Groups.{Group, next}
-use Rattle.tva_hier.specs.Hier.{AreGroups}
-use Rattle.tva_hier.proofs.Keeping.{head_there}
-use Rattle.tva_port.specs.declared.requests.RequestQueues.{RequestQueues}
-use Rattle.tva_port.specs.declared.requests.RequestQueues.TheVariants.{OneLevel, TwoLevels}
-use Rattle.tva_port.specs.Levels.{none_under, next_in, AreNone}
-use Rattle.tva_port.specs.Keeps.{AreWithin}
+use Rattle.tva_port.proofs.Common.{◌≡◌, ℕ, ◌≤◌, List, [], ◌∷◌, length, Option, Some, None, refl, sym, ap, ◌∙◌, subst, arith, DrrLimits, LinkLimits, PacketData, packet_length, Queue, first, head, AreMeasured, AreQueues, AreFair, Group, next, AreGroups, head_there, RequestQueues, OneLevel, TwoLevels, none_under, next_in, AreNone, AreWithin}
 
 -- ## where nothing waits
 

@@ -1,3 +1,4 @@
+mod Common
 pub mod Debts
 pub mod Logs
 pub mod Deciding

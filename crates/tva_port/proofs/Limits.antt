@@ -1,33 +1,7 @@
 -- What waits after a legal log is within the limits of each class.
-use Rattle.std.proofs.Common.{◌≡◌, ℕ, ◌+◌, ◌≤◌, ◌<◌, Bool, true, false, cond, List, [], ◌∷◌, ◌++◌, length, drop, Option, Some, None, refl, sym, ap, ◌∙◌, subst, arith}
-use Rattle.std.proofs.lemmas.Bool.Decides.{nat_tests}
+use Rattle.tva_port.proofs.Common.{◌≡◌, ℕ, ◌+◌, ◌≤◌, ◌<◌, Bool, true, false, cond, List, [], ◌∷◌, ◌++◌, length, drop, Option, Some, None, refl, sym, ap, ◌∙◌, subst, arith, nat_tests, sum_by-cons, sum_by_push, DrrLimits, LinkLimits, Class, Request, Regular, Legacy, AreDrrLimits, AreClassLimits, AreLinkLimits, PacketData, packet_length, Fair, fair, has_key, items_of, bytes_in, all_bytes, lacks_queue, lacks_room, put, offer_leaves, take_leaves, IsFair, offer_cases, inner_key_of, Hier, hier, lacks_place, lacks_space, put_under, left_by_offer, left_keeps, hier_taken, RequestQueues, OneLevel, TwoLevels, none_under, request_leaves, request_taken, Entry, Queued, Started, Waiting, waiting_after, lacks_legacy_room, Follows, AllFollow, IsLegal, AreWithin, IsWithinLimits, StaysWithinLimits, put_leaves, start_leaves}
 use Rattle.std.proofs.lemmas.List.{length-append}
-use Rattle.std.proofs.lemmas.List.Sums.{sum_by-cons, sum_by_push}
-use Rattle.tva_base.specs.declared.limits.DrrLimits.{DrrLimits}
-use Rattle.tva_base.specs.declared.limits.LinkLimits.{LinkLimits}
-use Rattle.tva_base.specs.declared.packet.Class.{Class}
-use Rattle.tva_base.specs.declared.packet.Class.TheVariants.{Request, Regular, Legacy}
-use Rattle.tva_base.specs.Plan.{AreDrrLimits, AreClassLimits, AreLinkLimits}
-use Rattle.tva_shim.specs.Packets.{PacketData, packet_length}
-use Rattle.tva_drr.specs.Queues.{Fair, fair, has_key, items_of, bytes_in, all_bytes}
-use Rattle.tva_drr.specs.Offer.{lacks_queue, lacks_room, put, offer_leaves}
-use Rattle.tva_drr.specs.Take.{take_leaves}
-use Rattle.tva_drr.specs.Fair.{IsFair}
 use Rattle.tva_drr.proofs.Keeps.{fair-put, fair-taken}
-use Rattle.tva_drr.proofs.Until.{offer_cases}
-use Rattle.tva_shim.specs.Shows.{inner_key_of}
-use Rattle.tva_hier.specs.Groups.{Hier, hier}
-use Rattle.tva_hier.specs.Offer.{lacks_place, lacks_space, put_under, left_by_offer}
-use Rattle.tva_hier.proofs.Offering.{left_keeps}
-use Rattle.tva_hier.proofs.Nexts.{hier_taken}
-use Rattle.tva_port.specs.declared.requests.RequestQueues.{RequestQueues}
-use Rattle.tva_port.specs.declared.requests.RequestQueues.TheVariants.{OneLevel, TwoLevels}
-use Rattle.tva_port.specs.Levels.{none_under, request_leaves, request_taken}
-use Rattle.tva_port.specs.Log.{Entry, Queued, Started}
-use Rattle.tva_port.specs.Waiting.{Waiting, waiting_after, lacks_legacy_room}
-use Rattle.tva_port.specs.Legal.{Follows, AllFollow, IsLegal}
-use Rattle.tva_port.specs.Keeps.{AreWithin, IsWithinLimits, StaysWithinLimits}
-use Rattle.tva_port.specs.Steps.{put_leaves, start_leaves}
 use Rattle.tva_port.proofs.Logs.{FewStarted, legal-all, legal-front}
 use Rattle.tva_port.proofs.Legality.{few-step}
 use Rattle.tva_port.proofs.Waits.{waits-queued, waits-started}

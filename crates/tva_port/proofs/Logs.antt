@@ -1,23 +1,6 @@
 -- What one more entry changes of what a log comes to.
-use Rattle.std.proofs.Common.{◌≡◌, ℕ, ◌+◌, ◌*◌, ◌≤◌, ◌<◌, false, cond, ltb, List, [], ◌∷◌, ◌++◌, length, drop, refl, sym, ap, ◌∙◌, subst, inl, inr, zero, suc, arith, append-nil, append_assoc}
-use Rattle.std.specs.List.{fold, filter_map, count_by}
-use Rattle.std.proofs.lemmas.Bool.Decides.{leb_tells}
-use Rattle.std.proofs.lemmas.List.{drop-append-le}
-use Rattle.std.proofs.lemmas.List.Sums.{sum_by_push}
-use Rattle.std.proofs.lemmas.List.Elements.{filter_map-append, filter-append, All-nil, All-cons, All-head, All-tail, All-push, All-weaker}
-use Rattle.tva_base.specs.declared.limits.LinkLimits.{LinkLimits}
-use Rattle.tva_base.specs.declared.packet.Class.{Class}
-use Rattle.tva_base.specs.declared.packet.Class.TheVariants.{Request, Regular, Legacy}
-use Rattle.tva_shim.specs.Packets.{PacketData, packet_length}
-use Rattle.tva_drr.specs.Queues.{Fair, fair}
-use Rattle.tva_drr.specs.Offer.{offer_leaves}
-use Rattle.tva_drr.specs.Take.{take_leaves}
-use Rattle.tva_port.specs.declared.requests.RequestQueues.{RequestQueues}
-use Rattle.tva_port.specs.Levels.{no_requests}
+use Rattle.tva_port.proofs.Common.{◌≡◌, ℕ, ◌+◌, ◌*◌, ◌≤◌, ◌<◌, false, cond, ltb, List, [], ◌∷◌, ◌++◌, length, drop, refl, sym, ap, ◌∙◌, subst, inl, inr, zero, suc, arith, append-nil, append_assoc, fold, filter_map, count_by, leb_tells, drop-append-le, sum_by_push, filter_map-append, filter-append, All-nil, All-cons, All-head, All-tail, All-push, All-weaker, LinkLimits, Class, Request, Regular, Legacy, PacketData, packet_length, Fair, fair, offer_leaves, take_leaves, RequestQueues, no_requests, Entry, Queued, Started, entry_time, NoneLater, entries_before, request_start, request_starts, free_from, request_step, regular_step, class_step, queued_legacy, is_legacy_start, legacy_after, Follows, AllFollow, IsLegal}
 use Rattle.tva_port.specs.Requests.{Start}
-use Rattle.tva_port.specs.Log.{Entry, Queued, Started, entry_time, NoneLater, entries_before, request_start, request_starts, free_from}
-use Rattle.tva_port.specs.Waiting.{request_step, regular_step, class_step, queued_legacy, is_legacy_start, legacy_after}
-use Rattle.tva_port.specs.Legal.{Follows, AllFollow, IsLegal}
 use Rattle.tva_port.proofs.Debts.{AreBy}
 
 -- ## times

@@ -1,19 +1,6 @@
 -- The worked logs, entry by entry.
-use Rattle.std.proofs.Common.{◌≡◌, ◌≤◌, ℕ, ◌+◌, ◌*◌, Bool, true, false, ◌&&◌, leb, max, List, [], ◌∷◌, ◌++◌, Option, Some, None, IfSome, refl, sym, subst, arith, append-nil}
-use Rattle.std.proofs.lemmas.Bool.{leb-true}
-use Rattle.std.proofs.lemmas.List.Elements.{All-nil}
-use Rattle.tva_base.specs.declared.limits.LinkLimits.{LinkLimits}
-use Rattle.tva_base.specs.declared.packet.Class.{Class}
-use Rattle.tva_base.specs.declared.packet.Class.TheVariants.{Request, Regular, Legacy}
-use Rattle.tva_base.specs.Plan.{AreClassLimits, AreLinkLimits}
-use Rattle.tva_shim.specs.Packets.{PacketData, packet_length}
-use Rattle.tva_shim.specs.Layout.{layout, two_bytes, eight_bytes}
+use Rattle.tva_port.proofs.Common.{◌≡◌, ◌≤◌, ℕ, ◌+◌, ◌*◌, Bool, true, false, ◌&&◌, leb, max, List, [], ◌∷◌, ◌++◌, Option, Some, None, IfSome, refl, sym, subst, arith, append-nil, leb-true, All-nil, LinkLimits, Class, Request, Regular, Legacy, AreClassLimits, AreLinkLimits, PacketData, packet_length, layout, two_bytes, eight_bytes, Start, WaitUntil, Entry, Queued, Started, NoneLater, entry_time, free_after, waiting_after, queue_answer, decision, MissesNone, IsLegal}
 use Rattle.tva_drr.specs.declared.offered.Offered.TheVariants as offers
-use Rattle.tva_port.specs.declared.decision.Decision.TheVariants.{Start, WaitUntil}
-use Rattle.tva_port.specs.Log.{Entry, Queued, Started, NoneLater, entry_time, free_after}
-use Rattle.tva_port.specs.Waiting.{waiting_after, queue_answer}
-use Rattle.tva_port.specs.Decide.{decision, MissesNone}
-use Rattle.tva_port.specs.Legal.{IsLegal}
 use Rattle.tva_port.specs.Worked.{worked_class, worked_link, three_queues, regulars_queued, burst_started, regulars_started, long, short, two_levels, requests_queued, requests_started, tagged}
 use Rattle.tva_port.proofs.Logs.{later-push, later-weaker, goes_on-push}
 use Rattle.tva_port.proofs.Resting.{misses}

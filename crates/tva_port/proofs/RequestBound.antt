@@ -1,21 +1,5 @@
 -- A request that is queued starts within its bound.
-use Rattle.std.proofs.Common.{◌≡◌, ℕ, ◌+◌, ◌-◌, ◌*◌, ◌<◌, ◌≤◌, max, List, [], ◌∷◌, ◌++◌, length, Some, None, refl, sym, ap, ◌∙◌, subst, inl, inr, ◌⊎◌, arith, append-nil, append_assoc}
-use Rattle.std.proofs.Math.Nat.{mul-le-mul_right}
-use Rattle.std.proofs.lemmas.Bool.{cases_lt}
-use Rattle.tva_base.specs.declared.limits.LinkLimits.{LinkLimits}
-use Rattle.tva_base.specs.declared.packet.Class.{Class}
-use Rattle.tva_base.specs.declared.packet.Class.TheVariants.{Request, Regular, Legacy}
-use Rattle.tva_base.specs.Plan.{AreLinkLimits}
-use Rattle.tva_shim.specs.Packets.{PacketData, packet_length}
-use Rattle.tva_drr.specs.Queues.{bytes_in}
-use Rattle.tva_port.specs.declared.requests.RequestQueues.{RequestQueues}
-use Rattle.tva_port.specs.Levels.{next_in, request_taken}
-use Rattle.tva_port.specs.Requests.{cost, cap, debt, start}
-use Rattle.tva_port.specs.Log.{Entry, Queued, Started, entry_time, NoneLater, request_starts, free_after}
-use Rattle.tva_port.specs.Waiting.{waiting_after}
-use Rattle.tva_port.specs.Decide.{covered, credit_after, RestsAt, MissesNone}
-use Rattle.tva_port.specs.Legal.{Follows, AllFollow, IsStarted, IsLegal}
-use Rattle.tva_port.specs.Bounds.{waiting_with, bytes_with, requests_until, request_bound, AreServed, StartsBy}
+use Rattle.tva_port.proofs.Common.{◌≡◌, ℕ, ◌+◌, ◌-◌, ◌*◌, ◌<◌, ◌≤◌, max, List, [], ◌∷◌, ◌++◌, length, Some, None, refl, sym, ap, ◌∙◌, subst, inl, inr, ◌⊎◌, arith, append-nil, append_assoc, mul-le-mul_right, cases_lt, LinkLimits, Class, Request, Regular, Legacy, AreLinkLimits, PacketData, packet_length, bytes_in, RequestQueues, next_in, request_taken, cost, cap, debt, start, Entry, Queued, Started, entry_time, NoneLater, request_starts, free_after, waiting_after, covered, credit_after, RestsAt, MissesNone, Follows, AllFollow, IsStarted, IsLegal, waiting_with, bytes_with, requests_until, request_bound, AreServed, StartsBy}
 use Rattle.tva_port.proofs.Debts.{AreBy, debt-later, debt-push}
 use Rattle.tva_port.proofs.Logs.{legal-front, legal-here, later-push, later-weaker, later-front, starts_by, starts-push, starts-same, requests-push, free-queued, free-started, goes_on-push}
 use Rattle.tva_port.proofs.Deciding.{lacking, covered_pays}

@@ -1,20 +1,5 @@
 -- When nothing starts: up to the end of a start, while a request waits, and while nothing waits.
-use Rattle.std.proofs.Common.{◌≡◌, ℕ, ◌+◌, ◌-◌, ◌≤◌, ◌<◌, min, false, List, [], ◌++◌, Option, Some, None, refl, sym, ap, ◌∙◌, subst, inl, inr, suc, arith, append-nil}
-use Rattle.std.proofs.Math.Nat.{mul-le-mul_right}
-use Rattle.std.proofs.lemmas.Bool.Decides.{leb_tells}
-use Rattle.tva_base.specs.declared.limits.LinkLimits.{LinkLimits}
-use Rattle.tva_base.specs.Plan.{AreLinkLimits}
-use Rattle.tva_base.specs.declared.packet.Time.{Time}
-use Rattle.tva_shim.specs.Packets.{PacketData, packet_length}
-use Rattle.tva_port.specs.declared.decision.Decision.{Decision}
-use Rattle.tva_port.specs.declared.decision.Decision.TheVariants.{Start, WaitUntil, Idle}
-use Rattle.tva_port.specs.Requests.{cost, cap}
-use Rattle.tva_port.specs.Levels.{next_in}
-use Rattle.tva_port.specs.Log.{Entry, Started, NoneLater, entries_before, request_starts}
-use Rattle.tva_port.specs.Waiting.{Waiting, waiting_after}
-use Rattle.tva_port.specs.Decide.{covered, wait_for, decision, decide_on, credit_after, is_start, started_by, RestsAt, MissesNone, NoneDueBefore, IsFirstCovered}
-use Rattle.tva_port.specs.Legal.{IsLegal}
-use Rattle.tva_port.specs.Steps.{freed}
+use Rattle.tva_port.proofs.Common.{◌≡◌, ℕ, ◌+◌, ◌-◌, ◌≤◌, ◌<◌, min, false, List, [], ◌++◌, Option, Some, None, refl, sym, ap, ◌∙◌, subst, inl, inr, suc, arith, append-nil, mul-le-mul_right, leb_tells, LinkLimits, AreLinkLimits, Time, PacketData, packet_length, Decision, Start, WaitUntil, Idle, cost, cap, next_in, Entry, Started, NoneLater, entries_before, request_starts, Waiting, waiting_after, covered, wait_for, decision, decide_on, credit_after, is_start, started_by, RestsAt, MissesNone, NoneDueBefore, IsFirstCovered, IsLegal, freed}
 use Rattle.tva_port.proofs.Debts.{debt-later}
 use Rattle.tva_port.proofs.Logs.{later-push, starts_by, entries_before-all, entries_before-push, free-started}
 use Rattle.tva_port.proofs.Deciding.{Rests, none_starts, rests_is, rests_no_start, lacking, not_covered}

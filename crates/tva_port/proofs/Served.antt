@@ -1,14 +1,5 @@
 -- After a decision each packet whose bound is over has started, and keys are served alike.
-use Rattle.std.proofs.Common.{◌≡◌, ℕ, ◌+◌, List, [], ◌++◌, sym, subst, inl, inr, suc, arith}
-use Rattle.std.proofs.lemmas.Bool.Decides.{leb_tells}
-use Rattle.tva_base.specs.declared.limits.LinkLimits.{LinkLimits}
-use Rattle.tva_base.specs.Plan.{AreLinkLimits}
-use Rattle.tva_base.specs.declared.packet.Class.TheVariants.{Request, Regular}
-use Rattle.tva_port.specs.declared.decision.Decision.{Decision}
-use Rattle.tva_port.specs.Log.{Entry, NoneLater}
-use Rattle.tva_port.specs.Decide.{decision, started_by, RestsAt, MissesNone}
-use Rattle.tva_port.specs.Legal.{IsLegal}
-use Rattle.tva_port.specs.Bounds.{request_bound, regular_bound, AreServed, ServesAlike}
+use Rattle.tva_port.proofs.Common.{◌≡◌, ℕ, ◌+◌, List, [], ◌++◌, sym, subst, inl, inr, suc, arith, leb_tells, LinkLimits, AreLinkLimits, Request, Regular, Decision, Entry, NoneLater, decision, started_by, RestsAt, MissesNone, IsLegal, request_bound, regular_bound, AreServed, ServesAlike}
 use Rattle.tva_port.proofs.Logs.{entries_before-all, legal-front}
 use Rattle.tva_port.proofs.Resting.{cut_away, none_later}
 use Rattle.tva_port.proofs.Steady.{none_again}

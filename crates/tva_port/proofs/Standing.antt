@@ -1,28 +1,10 @@
 -- A port goes on to stand for its log, and stays within its limits.
-use Rattle.std.proofs.Common.{◌≡◌, true, false, ℕ, ◌-◌, ◌≤◌, List, [], ◌∷◌, ◌++◌, refl, sym, ap, ◌∙◌, subst, inl, inr, arith, append-nil, ◌+◌}
-use Rattle.tva_base.specs.declared.limits.LinkLimits.{LinkLimits}
-use Rattle.tva_base.specs.declared.packet.Class.{Class}
-use Rattle.tva_base.specs.declared.packet.Class.TheVariants.{Request, Regular, Legacy}
-use Rattle.tva_shim.specs.Packets.{PacketData, packet_length}
-use Rattle.tva_drr.specs.declared.offered.Offered.{Offered}
+use Rattle.tva_port.proofs.Common.{◌≡◌, true, false, ℕ, ◌-◌, ◌≤◌, List, [], ◌∷◌, ◌++◌, refl, sym, ap, ◌∙◌, subst, inl, inr, arith, append-nil, ◌+◌, LinkLimits, Class, Request, Regular, Legacy, PacketData, packet_length, Offered, Decision, Start, WaitUntil, Idle, start, cost, debt, cap, Entry, Queued, Started, request_starts, Waiting, waiting_after, queue_answer, queued_by, is_queued, decision, decide_on, credit_after, started_by, IsStarted, PortData, port_data, StandsFor, grown, put_leaves, decision_leaves, paid, freed, Fair, limits_in, RequestQueues, LegacyData, IsSound}
 use Rattle.tva_drr.specs.declared.offered.Offered.TheVariants as offers
-use Rattle.tva_port.specs.declared.decision.Decision.{Decision}
-use Rattle.tva_port.specs.declared.decision.Decision.TheVariants.{Start, WaitUntil, Idle}
-use Rattle.tva_port.specs.Requests.{start, cost, debt, cap}
-use Rattle.tva_port.specs.Log.{Entry, Queued, Started, request_starts}
-use Rattle.tva_port.specs.Waiting.{Waiting, waiting_after, queue_answer, queued_by, is_queued}
-use Rattle.tva_port.specs.Decide.{decision, decide_on, credit_after, started_by}
-use Rattle.tva_port.specs.Legal.{IsStarted}
-use Rattle.tva_port.specs.Stands.{PortData, port_data, StandsFor}
-use Rattle.tva_port.specs.Steps.{grown, put_leaves, decision_leaves, paid, freed}
 use Rattle.tva_port.proofs.Debts.{debt-later, debt-push}
 use Rattle.tva_port.proofs.Logs.{later-push, later-weaker, starts_by, starts-push, starts-same, free-queued, free-started, goes_on-push}
 use Rattle.tva_port.proofs.Legality.{few_started, debt_capped}
 use Rattle.tva_port.proofs.Waits.{puts_or, waits-queued, waits-started}
-use Rattle.tva_drr.specs.Queues.{Fair}
-use Rattle.tva_port.specs.Levels.{limits_in}
-use Rattle.tva_port.specs.declared.requests.RequestQueues.{RequestQueues}
-use Rattle.tva_port.specs.Lists.{LegacyData, IsSound}
 
 -- the running credit is the credit after the log, at every later time
 pub credit_is : (v : PortData) (log : List Entry) (now : ℕ) → StandsFor v log → v.last ≤ now → grown v.limits v.credit (now - v.last) ≡ credit_after v.limits log now

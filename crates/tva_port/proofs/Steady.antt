@@ -1,22 +1,7 @@
 -- What a decision leaves until the next one is due: a wait stays the same wait, an idle link stays idle,
 -- and neither a start nor a queueing lets a start be missed meanwhile.
-use Rattle.std.proofs.Common.{◌≡◌, ℕ, ◌+◌, ◌-◌, ◌≤◌, ◌<◌, max, false, List, [], ◌∷◌, ◌++◌, Option, Some, refl, sym, ap, ◌∙◌, subst, inl, inr, suc, arith, append-nil}
-use Rattle.std.proofs.lemmas.Bool.Decides.{leb_tells}
-use Rattle.tva_base.specs.declared.limits.LinkLimits.{LinkLimits}
-use Rattle.tva_base.specs.declared.packet.Class.{Class}
-use Rattle.tva_base.specs.declared.packet.Time.{Time}
-use Rattle.tva_base.specs.Plan.{AreLinkLimits}
-use Rattle.tva_shim.specs.Packets.{PacketData, packet_length}
-use Rattle.tva_drr.specs.declared.offered.Offered.{Offered}
+use Rattle.tva_port.proofs.Common.{◌≡◌, ℕ, ◌+◌, ◌-◌, ◌≤◌, ◌<◌, max, false, List, [], ◌∷◌, ◌++◌, Option, Some, refl, sym, ap, ◌∙◌, subst, inl, inr, suc, arith, append-nil, leb_tells, LinkLimits, Class, Time, AreLinkLimits, PacketData, packet_length, Offered, Decision, Start, WaitUntil, Idle, cost, Entry, Queued, NoneLater, free_after, waiting_after, next_request, queued_by, wait_for, decision, credit_after, is_start, started_by, RestsAt, MissesNone, NoneDueBefore, IsLegal, freed}
 use Rattle.tva_drr.specs.declared.offered.Offered.TheVariants as offers
-use Rattle.tva_port.specs.declared.decision.Decision.{Decision}
-use Rattle.tva_port.specs.declared.decision.Decision.TheVariants.{Start, WaitUntil, Idle}
-use Rattle.tva_port.specs.Requests.{cost}
-use Rattle.tva_port.specs.Log.{Entry, Queued, NoneLater, free_after}
-use Rattle.tva_port.specs.Waiting.{waiting_after, next_request, queued_by}
-use Rattle.tva_port.specs.Decide.{wait_for, decision, credit_after, is_start, started_by, RestsAt, MissesNone, NoneDueBefore}
-use Rattle.tva_port.specs.Legal.{IsLegal}
-use Rattle.tva_port.specs.Steps.{freed}
 use Rattle.tva_port.proofs.Logs.{later-push, entries_before-all, entries_before-push, free-queued, free-started}
 use Rattle.tva_port.proofs.Deciding.{Rests, rests_is}
 use Rattle.tva_port.proofs.Legality.{occupies}

@@ -1,50 +1,13 @@
 -- How many packets wait at a port: one more once one is queued, one less once one starts, and never more than there
 -- are places. So a port for packets by value has memory for each that it takes, and room for each that it gives.
-use Rattle.std.proofs.Common.{◌≡◌, ℕ, suc, ◌+◌, ◌-◌, ◌*◌, ◌≤◌, Bool, true, false, cond, leb, List, [], ◌∷◌, ◌++◌, length, drop, Some, refl, sym, ap, ◌∙◌, subst, inl, inr, length-append, arith, Option, None, append-nil}
-use Rattle.std.proofs.Math.Nat.{mul-le-mul_right, add-mul}
-use Rattle.std.proofs.lemmas.Bool.Decides.{leb_tells}
-use Rattle.std.proofs.lemmas.List.Sums.{sum_by-cons, sum_by_push}
-use Rattle.tva_base.specs.declared.limits.DrrLimits.{DrrLimits}
-use Rattle.tva_base.specs.declared.limits.LinkLimits.{LinkLimits}
-use Rattle.tva_base.specs.declared.packet.Class.{Class}
-use Rattle.tva_base.specs.declared.packet.Class.TheVariants.{Request, Regular, Legacy}
-use Rattle.tva_shim.specs.Packets.{PacketData, packet_length}
-use Rattle.tva_shim.specs.Shows.{inner_key_of}
-use Rattle.tva_drr.specs.declared.offered.Offered.{Offered}
+use Rattle.tva_port.proofs.Common.{◌≡◌, ℕ, suc, ◌+◌, ◌-◌, ◌*◌, ◌≤◌, Bool, true, false, cond, leb, List, [], ◌∷◌, ◌++◌, length, drop, Some, refl, sym, ap, ◌∙◌, subst, inl, inr, length-append, arith, Option, None, append-nil, mul-le-mul_right, add-mul, leb_tells, sum_by-cons, sum_by_push, DrrLimits, LinkLimits, Class, Request, Regular, Legacy, PacketData, packet_length, inner_key_of, Offered, Queue, queue, Fair, fair, first, head, bytes_in, queue_bytes, all_bytes, lacks_queue, lacks_room, offer_answer, offer_leaves, refilled, popped, settled, front_settled, taken, AreQueues, IsFair, first_bytes, head_bytes, all_bytes-put, Group, Hier, group, inner_limits, fair_of, group_bytes, all_group_bytes, next, lacks_group, lacks_place, lacks_space, answer_to_offer, left_by_offer, group_refilled, group_settled, groups_taken, AreGroups, IsHier, none_true, bytes-changed, offered_is, left_queued, RequestQueues, OneLevel, TwoLevels, Decision, Start, WaitUntil, Idle, next_in, request_answer, request_leaves, request_taken, none_under, Waiting, lacks_legacy_room, queue_answer, is_queued, waiting_after, queued_by, decide_on, decision, started_by, credit_after, AreWithin, IsWithinLimits, put_leaves, start_leaves, decision_leaves, AreLinkLimits, Answer, AreOneAnswer, AreOneDecision, answer_by, decision_by, IsLegal, Entry, PortData, StandsFor}
 use Rattle.tva_drr.specs.declared.offered.Offered.TheVariants as offers
-use Rattle.tva_drr.specs.Queues.{Queue, queue, Fair, fair, first, head, bytes_in, queue_bytes, all_bytes}
-use Rattle.tva_drr.specs.Offer.{lacks_queue, lacks_room, offer_answer, offer_leaves}
-use Rattle.tva_drr.specs.Take.{refilled, popped, settled, front_settled, taken}
-use Rattle.tva_drr.specs.Fair.{AreQueues, IsFair}
-use Rattle.tva_drr.specs.Service.{first_bytes, head_bytes}
-use Rattle.tva_drr.proofs.Lists.{all_bytes-put}
-use Rattle.tva_hier.specs.Groups.{Group, Hier, group, inner_limits, fair_of, group_bytes, all_group_bytes, next}
-use Rattle.tva_hier.specs.Offer.{lacks_group, lacks_place, lacks_space, answer_to_offer, left_by_offer}
-use Rattle.tva_hier.specs.Take.{group_refilled, group_settled, groups_taken}
-use Rattle.tva_hier.specs.Hier.{AreGroups, IsHier}
-use Rattle.tva_hier.proofs.GroupLists.{none_true, bytes-changed, offered_is}
-use Rattle.tva_hier.proofs.Offering.{left_queued}
-use Rattle.tva_port.specs.declared.requests.RequestQueues.{RequestQueues}
-use Rattle.tva_port.specs.declared.requests.RequestQueues.TheVariants.{OneLevel, TwoLevels}
-use Rattle.tva_port.specs.declared.decision.Decision.{Decision}
-use Rattle.tva_port.specs.declared.decision.Decision.TheVariants.{Start, WaitUntil, Idle}
-use Rattle.tva_port.specs.Levels.{next_in, request_answer, request_leaves, request_taken, none_under}
-use Rattle.tva_port.specs.Waiting.{Waiting, lacks_legacy_room, queue_answer, is_queued, waiting_after, queued_by}
-use Rattle.tva_port.specs.Decide.{decide_on, decision, started_by, credit_after}
-use Rattle.tva_port.specs.Keeps.{AreWithin, IsWithinLimits}
-use Rattle.tva_port.specs.Steps.{put_leaves, start_leaves, decision_leaves}
 use Rattle.tva_port.specs.Counts.{one, count_of, request_count, waiting_count, queued_count, started_count, places_under, request_places, places_in, hand_count, StockData}
 use Rattle.tva_port.proofs.Deciding.{next_of, start_is, covered_pays}
 use Rattle.tva_port.proofs.Standing.{refused_leaves}
-use Rattle.tva_base.specs.Plan.{AreLinkLimits}
-use Rattle.tva_port.specs.declared.hand.Answer.{Answer}
 use Rattle.tva_port.specs.declared.hand.Answer.TheVariants as answers
 use Rattle.tva_port.specs.declared.hand.Next.{Next}
 use Rattle.tva_port.specs.declared.hand.Next.TheVariants as nexts
-use Rattle.tva_port.specs.Hand.{AreOneAnswer, AreOneDecision, answer_by, decision_by}
-use Rattle.tva_port.specs.Legal.{IsLegal}
-use Rattle.tva_port.specs.Log.{Entry}
-use Rattle.tva_port.specs.Stands.{PortData, StandsFor}
 use Rattle.tva_port.specs.Stocked.{IsStocked}
 use Rattle.tva_port.proofs.Legality.{few_started}
 use Rattle.tva_port.proofs.Limits.{stays_within}

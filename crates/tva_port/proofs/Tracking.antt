@@ -1,41 +1,12 @@
 -- A packet that waits in its queue, and the bytes of its class that go before it, in queues of one level or of two:
 -- regular packets wait in queues of one level, and requests in those of their link.
-use Rattle.std.proofs.Common.{◌≡◌, ℕ, ◌+◌, ◌≤◌, true, false, cond, List, [], ◌∷◌, ◌++◌, length, Option, Some, refl, sym, ap, ◌∙◌, subst, inl, inr, ◌⊎◌, arith, append_assoc}
+use Rattle.tva_port.proofs.Common.{◌≡◌, ℕ, ◌+◌, ◌≤◌, true, false, cond, List, [], ◌∷◌, ◌++◌, length, Option, Some, refl, sym, ap, ◌∙◌, subst, inl, inr, ◌⊎◌, arith, append_assoc, sum_by-cons, sum_by_push, DrrLimits, LinkLimits, Class, Request, Regular, Legacy, PacketData, packet_length, inner_key_of, Queue, Fair, fair, has_key, items_of, bytes_in, head, put, lacks_queue, lacks_room, offer_leaves, taken, AreQueues, IsFair, is_front, first_bytes, head_bytes, most_until, by_key, goes_last, goes_first, by_test, taken_falls, ahead-offer, ahead_most, offer_cases, has_from_items, some_head, Hier, items_under, fair_of, left_by_offer, IsHier, head_some, head-put, left_last, next_some, next_there, groups_there, next-offered, taken_under, next_ahead, RequestQueues, OneLevel, TwoLevels, next_in, request_leaves, request_taken, requests_with, are_next, Entry, waiting_after, AreWithin, IsWithinLimits, requests_until}
 use Rattle.std.specs.Bool.{MatchBool}
-use Rattle.std.proofs.lemmas.List.Sums.{sum_by-cons, sum_by_push}
-use Rattle.tva_base.specs.declared.limits.DrrLimits.{DrrLimits}
-use Rattle.tva_base.specs.declared.limits.LinkLimits.{LinkLimits}
-use Rattle.tva_base.specs.declared.packet.Class.{Class}
-use Rattle.tva_base.specs.declared.packet.Class.TheVariants.{Request, Regular, Legacy}
-use Rattle.tva_shim.specs.Packets.{PacketData, packet_length}
-use Rattle.tva_shim.specs.Shows.{inner_key_of}
-use Rattle.tva_drr.specs.Queues.{Queue, Fair, fair, has_key, items_of, bytes_in, head}
-use Rattle.tva_drr.specs.Offer.{put, lacks_queue, lacks_room, offer_leaves}
-use Rattle.tva_drr.specs.Take.{taken}
-use Rattle.tva_drr.specs.Fair.{AreQueues, IsFair}
 use Rattle.tva_drr.specs.Order.{GoesLast}
-use Rattle.tva_drr.specs.Service.{is_front, first_bytes, head_bytes, most_until}
 use Rattle.tva_drr.specs.Ahead.{bytes_ahead}
-use Rattle.tva_drr.proofs.Lists.{by_key}
-use Rattle.tva_drr.proofs.OrderLaws.{goes_last, goes_first}
-use Rattle.tva_drr.proofs.Falling.{by_test, taken_falls, ahead-offer, ahead_most}
-use Rattle.tva_drr.proofs.Until.{offer_cases, has_from_items, some_head}
-use Rattle.tva_hier.specs.Groups.{Hier, items_under, fair_of}
-use Rattle.tva_hier.specs.Offer.{left_by_offer}
-use Rattle.tva_hier.specs.Hier.{IsHier}
-use Rattle.tva_hier.specs.Order.{GoesLastUnder}
-use Rattle.tva_hier.specs.Ahead.{bytes_ahead_under, next_bytes, most_until_under}
-use Rattle.tva_hier.proofs.Keeping.{head_some, head-put}
-use Rattle.tva_hier.proofs.Offering.{left_last}
-use Rattle.tva_hier.proofs.Aheads.{falls_under, offer_under, most_under, next_ahead_of}
-use Rattle.tva_hier.proofs.Nexts.{next_some, next_there, groups_there, next-offered, taken_under, next_ahead}
-use Rattle.tva_port.specs.declared.requests.RequestQueues.{RequestQueues}
-use Rattle.tva_port.specs.declared.requests.RequestQueues.TheVariants.{OneLevel, TwoLevels}
-use Rattle.tva_port.specs.Levels.{next_in, request_leaves, request_taken, requests_with, are_next}
-use Rattle.tva_port.specs.Log.{Entry}
-use Rattle.tva_port.specs.Waiting.{waiting_after}
-use Rattle.tva_port.specs.Keeps.{AreWithin, IsWithinLimits}
-use Rattle.tva_port.specs.Bounds.{requests_until}
+use Rattle.tva_drr.specs.GroupsOrder.{GoesLastUnder}
+use Rattle.tva_drr.specs.GroupsAhead.{bytes_ahead_under, next_bytes, most_until_under}
+use Rattle.tva_drr.proofs.Aheads.{falls_under, offer_under, most_under, next_ahead_of}
 use Rattle.tva_port.proofs.Logs.{fair_step, regulars-push}
 use Rattle.tva_port.proofs.Waits.{within_or}
 

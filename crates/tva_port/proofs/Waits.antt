@@ -1,22 +1,6 @@
 -- What waits after one more entry, by the class of its packet.
-use Rattle.std.proofs.Common.{◌≡◌, ℕ, Bool, true, false, cond, List, [], ◌∷◌, ◌++◌, drop, refl, sym, ap, ◌∙◌, inl, inr, ◌⊎◌}
-use Rattle.tva_base.specs.declared.limits.LinkLimits.{LinkLimits}
-use Rattle.tva_base.specs.declared.packet.Class.{Class}
-use Rattle.tva_base.specs.declared.packet.Class.TheVariants.{Request, Regular, Legacy}
-use Rattle.tva_shim.specs.Packets.{PacketData, packet_length}
+use Rattle.tva_port.proofs.Common.{◌≡◌, ℕ, Bool, true, false, cond, List, [], ◌∷◌, ◌++◌, drop, refl, sym, ap, ◌∙◌, inl, inr, ◌⊎◌, LinkLimits, Class, Request, Regular, Legacy, PacketData, packet_length, Fair, fair, lacks_queue, lacks_room, put, offer_answer, offer_leaves, take_leaves, inner_key_of, Hier, hier, lacks_place, lacks_space, put_under, answer_to_offer, left_by_offer, RequestQueues, OneLevel, TwoLevels, request_answer, request_leaves, request_taken, Entry, Queued, Started, Waiting, waiting, legacy_after, waiting_after, lacks_legacy_room, queue_answer, queued_by, put_leaves, start_leaves}
 use Rattle.tva_drr.specs.declared.offered.Offered.TheVariants as offers
-use Rattle.tva_drr.specs.Queues.{Fair, fair}
-use Rattle.tva_drr.specs.Offer.{lacks_queue, lacks_room, put, offer_answer, offer_leaves}
-use Rattle.tva_drr.specs.Take.{take_leaves}
-use Rattle.tva_shim.specs.Shows.{inner_key_of}
-use Rattle.tva_hier.specs.Groups.{Hier, hier}
-use Rattle.tva_hier.specs.Offer.{lacks_place, lacks_space, put_under, answer_to_offer, left_by_offer}
-use Rattle.tva_port.specs.declared.requests.RequestQueues.{RequestQueues}
-use Rattle.tva_port.specs.declared.requests.RequestQueues.TheVariants.{OneLevel, TwoLevels}
-use Rattle.tva_port.specs.Levels.{request_answer, request_leaves, request_taken}
-use Rattle.tva_port.specs.Log.{Entry, Queued, Started}
-use Rattle.tva_port.specs.Waiting.{Waiting, waiting, legacy_after, waiting_after, lacks_legacy_room, queue_answer, queued_by}
-use Rattle.tva_port.specs.Steps.{put_leaves, start_leaves}
 use Rattle.tva_port.proofs.Logs.{requests_after, regulars_after, requests-push, regulars-push, FewStarted, legacy-same, legacy-queued, legacy-started}
 
 same_waiting : (a b : RequestQueues) (c d : Fair PacketData) (xs ys : List PacketData) → a ≡ b → c ≡ d → xs ≡ ys

@@ -9,7 +9,7 @@ use Rattle.tva_base.specs.declared.packet.Class.TheVariants.{Request, Regular, L
 use Rattle.tva_shim.specs.Packets.{PacketData, packet_length}
 use Rattle.tva_drr.specs.Queues.{Queue, has_key, items_of, bytes_in}
 use Rattle.tva_drr.specs.Service.{is_front, most_until}
-use Rattle.tva_hier.specs.Ahead.{most_until_under}
+use Rattle.tva_drr.specs.GroupsAhead.{most_until_under}
 use Rattle.tva_port.specs.Levels.{requests_with, are_next, single_queues}
 use Rattle.tva_port.specs.Requests.{cost}
 use Rattle.tva_port.specs.Log.{Entry, Queued, Started}

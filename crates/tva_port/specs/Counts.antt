@@ -6,7 +6,7 @@ use Rattle.tva_shim.specs.Packets.{PacketData}
 use Rattle.tva_drr.specs.declared.offered.Offered.{Offered}
 use Rattle.tva_drr.specs.declared.offered.Offered.TheVariants.{Queued}
 use Rattle.tva_drr.specs.Queues.{Fair, all_bytes}
-use Rattle.tva_hier.specs.Groups.{all_group_bytes}
+use Rattle.tva_drr.specs.Groups.{all_group_bytes}
 use Rattle.tva_port.specs.declared.requests.RequestQueues.{RequestQueues}
 use Rattle.tva_port.specs.declared.requests.RequestQueues.TheVariants.{OneLevel, TwoLevels}
 use Rattle.tva_port.specs.declared.decision.Decision.{Decision}

@@ -6,7 +6,7 @@ use Rattle.tva_base.specs.declared.limits.LinkLimits.{LinkLimits}
 use Rattle.tva_shim.specs.Packets.{packet_length}
 use Rattle.tva_drr.specs.Queues.{bytes_in}
 use Rattle.tva_drr.specs.Fair.{IsFair}
-use Rattle.tva_hier.specs.Hier.{IsHier}
+use Rattle.tva_drr.specs.Hier.{IsHier}
 use Rattle.tva_port.specs.declared.requests.RequestQueues.{RequestQueues}
 use Rattle.tva_port.specs.declared.requests.RequestQueues.TheVariants.{OneLevel, TwoLevels}
 use Rattle.tva_port.specs.Requests.{Start, costs, cap}

@@ -10,10 +10,10 @@ use Rattle.tva_drr.specs.Queues.{Queue, fair, items_of, head}
 use Rattle.tva_drr.specs.Offer.{offer_answer, offer_leaves}
 use Rattle.tva_drr.specs.Take.{take_leaves}
 use Rattle.tva_drr.specs.Service.{is_front}
-use Rattle.tva_hier.specs.Groups.{hier, items_under, next}
-use Rattle.tva_hier.specs.Offer.{answer_to_offer, left_by_offer}
-use Rattle.tva_hier.specs.Take.{left_by_take}
-use Rattle.tva_hier.specs.Ahead.{are_front}
+use Rattle.tva_drr.specs.Groups.{hier, items_under, next}
+use Rattle.tva_drr.specs.GroupsOffer.{answer_to_offer, left_by_offer}
+use Rattle.tva_drr.specs.GroupsTake.{left_by_take}
+use Rattle.tva_drr.specs.GroupsAhead.{are_front}
 use Rattle.tva_port.specs.declared.requests.RequestQueues.{RequestQueues}
 use Rattle.tva_port.specs.declared.requests.RequestQueues.TheVariants.{OneLevel, TwoLevels}
 

@@ -4,7 +4,7 @@ ghost use Rattle.tva_base.specs.declared.limits.LinkLimits.{LinkLimits};
 ghost use Rattle.tva_base.specs.declared.packet.Class.TheVariants.{Request, Regular};
 ghost use Rattle.tva_base.specs.Plan.{AreClassLimits, AreLinkLimits};
 ghost use Rattle.tva_drr.specs.Service.{most_until};
-ghost use Rattle.tva_hier.specs.Ahead.{most_until_under};
+ghost use Rattle.tva_drr.specs.GroupsAhead.{most_until_under};
 ghost use Rattle.tva_port.specs.Log.{Entry};
 ghost use Rattle.tva_port.specs.Decide.{MissesNone};
 ghost use Rattle.tva_port.specs.Legal.{IsLegal};

@@ -4,9 +4,9 @@ ghost use Rattle.std.specs.Option.{option_map};
 ghost use Rattle.tva_base.specs.Plan.{AreLinkLimits};
 ghost use Rattle.tva_shim.specs.Packets.{PacketData, packet_length};
 ghost use Rattle.tva_shim.specs.Shows.{inner_key_of};
-ghost use Rattle.tva_hier.specs.Groups.{next};
-ghost use Rattle.tva_hier.specs.Offer.{answer_to_offer, left_by_offer};
-ghost use Rattle.tva_hier.specs.Take.{left_by_take};
+ghost use Rattle.tva_drr.specs.Groups.{next};
+ghost use Rattle.tva_drr.specs.GroupsOffer.{answer_to_offer, left_by_offer};
+ghost use Rattle.tva_drr.specs.GroupsTake.{left_by_take};
 ghost use Rattle.tva_base.specs.declared.packet.Class.TheVariants.{Request};
 ghost use Rattle.tva_port.specs.Decide.{start_or};
 ghost use Rattle.tva_port.specs.Hand.{AreOneAnswer, AreOneDecision, answer_by, decision_by};
@@ -18,8 +18,7 @@ use crate::hand::{Answer, Hand, Next};
 use crate::held::{HeldPacket, back_into, start_held, take_held};
 use std::alloc::{AllocError, Global};
 use tva_base::{Class, LinkLimits};
-use tva_drr::FairQueues;
-use tva_hier::HierQueues;
+use tva_drr::{FairQueues, HierQueues};
 use tva_shim::inner_queue_key;
 
 /// Requests in fair queues by their keys; or on a link with two levels in two-level queues, by

@@ -1,18 +1,7 @@
 -- Lemmas on comparing a report with lines.
-use Rattle.std.proofs.Common.{◌≡◌, ℕ, ◌+◌, ◌≤◌, Bool, true, false, not, List, [], ◌∷◌, ◌++◌, length, cond, refl, sym, ◌∙◌, ap, arith, inl, inr, Some, None, Option, MatchOption, is_some, append-nil}
-use Rattle.std.specs.Prelude.{◌&&◌, nat_le}
-use Rattle.std.specs.List.{list_all, position_from}
+use Rattle.tva_report.proofs.Common.{◌≡◌, ℕ, ◌+◌, ◌≤◌, Bool, true, false, not, List, [], ◌∷◌, ◌++◌, length, cond, refl, sym, ◌∙◌, ap, arith, inl, inr, Some, None, Option, MatchOption, is_some, append-nil, ◌&&◌, nat_le, list_all, position_from, bytes_eq, cases_Bool, leb-true, All-weaker, AllPass-from_list_all, IsPrintable, Ahead, IsNext, IsOver, bad_ahead, line_there, AreLines, Compared, FitsLine, Leads, StandsFor, compared, found_there, outcome, first_difference, first_bad, is_ended_line, is_line, is_printable, pieces, report_lines}
 use Rattle.std.specs.Option.{option_map_or}
-use Rattle.std.specs.Str.{bytes_eq}
-use Rattle.std.proofs.lemmas.Bool.{cases_Bool, leb-true}
-use Rattle.std.proofs.lemmas.List.Elements.{All-weaker}
-use Rattle.std.proofs.lemmas.List.Sums.{AllPass-from_list_all}
-use Rattle.tva_base.specs.Printable.{IsPrintable}
 use Rattle.tva_report.specs.declared.pieces.Piece.{Piece}
-use Rattle.tva_report.specs.Ahead.{Ahead, IsNext, IsOver, bad_ahead, line_there}
-use Rattle.tva_report.specs.Compared.{AreLines, Compared, FitsLine, Leads, StandsFor, compared, found_there, outcome}
-use Rattle.tva_report.specs.Differences.{first_difference}
-use Rattle.tva_report.specs.Lines.{first_bad, is_ended_line, is_line, is_printable, pieces, report_lines}
 use Rattle.tva_report.proofs.Differing.{equal_lines}
 
 pub both_true : (a b : Bool) → (a && b) ≡ true → (a ≡ true) × (b ≡ true)

@@ -1,13 +1,7 @@
 -- Lemmas on the pieces of a text.
-use Rattle.std.proofs.Common.{◌≡◌, ℕ, ◌+◌, ◌<◌, ◌≤◌, true, false, List, [], ◌∷◌, ◌++◌, length, get_or, take, drop, refl, ◌∙◌, ap, arith, inl, inr, zero, suc, Some, None, add-one, append_assoc, append-nil, not, ◌-◌, length-append, length-drop}
+use Rattle.tva_report.proofs.Common.{◌≡◌, ℕ, ◌+◌, ◌<◌, ◌≤◌, true, false, List, [], ◌∷◌, ◌++◌, length, get_or, take, drop, refl, ◌∙◌, ap, arith, inl, inr, zero, suc, Some, None, add-one, append_assoc, append-nil, not, ◌-◌, length-append, length-drop, list_any, position, position_or_len, cases_Bool, eqb-true, ltb-false, take_while-cons, fails_before_first, list_any_none, nat_lt, ended, is_feed, pieces, without_feed}
 use Rattle.std.proofs.Math.Seq.{take-length, drop-length}
-use Rattle.std.specs.List.{list_any, position, position_or_len}
 use Rattle.std.proofs.lemmas.List.Quantifiers.{position-Some}
-use Rattle.std.proofs.lemmas.Bool.{cases_Bool, eqb-true, ltb-false}
-use Rattle.std.proofs.lemmas.List.Sums.{take_while-cons, fails_before_first}
-use Rattle.std.proofs.lemmas.List.Folds.{list_any_none}
-use Rattle.std.specs.Prelude.{nat_lt}
-use Rattle.tva_report.specs.Lines.{ended, is_feed, pieces, without_feed}
 
 -- text without a line feed
 abbrev pub HasNoFeed : List ℕ → Type 0

@@ -1,11 +1,6 @@
 -- Lemmas on the first difference of two lists of lines.
-use Rattle.std.proofs.Common.{◌≡◌, ◌≢◌, ℕ, ◌+◌, ◌-◌, true, false, List, [], ◌∷◌, ◌++◌, length, take, refl, ◌∙◌, arith, inl, inr, Some, None, suc, add-zero}
-use Rattle.std.specs.Prelude.{slice_get, unwrap_or}
-use Rattle.std.specs.Str.{bytes_eq}
-use Rattle.std.proofs.lemmas.Bool.{cases_Bool}
-use Rattle.std.proofs.lemmas.Slice.Eq.{bytes_eq-Decides}
+use Rattle.tva_report.proofs.Common.{◌≡◌, ◌≢◌, ℕ, ◌+◌, ◌-◌, true, false, List, [], ◌∷◌, ◌++◌, length, take, refl, ◌∙◌, arith, inl, inr, Some, None, suc, add-zero, slice_get, unwrap_or, bytes_eq, cases_Bool, bytes_eq-Decides, IsFirstDifference, difference_from, finding}
 use Rattle.tva_report.specs.declared.differences.Finding.{Finding}
-use Rattle.tva_report.specs.Differences.{IsFirstDifference, difference_from, finding}
 
 same_line : (x : List ℕ) → bytes_eq x x ≡ true
 same_line x = (bytes_eq-Decides x x).1 refl

@@ -1,11 +1,5 @@
 -- A text without a bad line has as many line feeds as lines.
-use Rattle.std.proofs.Common.{◌≡◌, ℕ, ◌+◌, Bool, cond, List, [], ◌∷◌, ◌++◌, length, None, refl, sym, ◌∙◌, ap, arith}
-use Rattle.std.specs.Prelude.{count_by}
-use Rattle.std.specs.List.{AllByRecursion}
-use Rattle.std.proofs.lemmas.List.Elements.{recursion_from_All}
-use Rattle.std.proofs.lemmas.List.Sums.{sum_by-cons}
-use Rattle.tva_base.specs.Printable.{IsLine}
-use Rattle.tva_report.specs.Lines.{first_bad, is_feed, report_lines, text_of}
+use Rattle.tva_report.proofs.Common.{◌≡◌, ℕ, ◌+◌, Bool, cond, List, [], ◌∷◌, ◌++◌, length, None, refl, sym, ◌∙◌, ap, arith, count_by, AllByRecursion, recursion_from_All, sum_by-cons, IsLine, first_bad, is_feed, report_lines, text_of}
 use Rattle.tva_report.proofs.Cuts.{HasNoFeed, first_no, rest_no}
 use Rattle.tva_report.proofs.LinesBack.{good_are_lines, good_back, line_has_none}
 

@@ -1,14 +1,5 @@
 -- Lemmas on texts that are made of lines.
-use Rattle.std.proofs.Common.{◌≡◌, ℕ, ◌+◌, ◌≤◌, Bool, true, false, not, List, [], ◌∷◌, ◌++◌, length, map, refl, sym, ◌∙◌, ap, arith, inl, inr, None, All, append_assoc, add-zero, subst}
-use Rattle.std.specs.Prelude.{◌&&◌, nat_le}
-use Rattle.std.specs.List.{list_all, list_any, onto_first, position_from, AllByRecursion}
-use Rattle.std.proofs.lemmas.Bool.{cases_Bool, le-leb, eqb-true, ne_eqb}
-use Rattle.std.proofs.lemmas.List.Elements.{All-weaker, All-map, recursion_from_All}
-use Rattle.std.proofs.lemmas.List.Sums.{AllPass-from_list_all, list_all-from_AllPass}
-use Rattle.std.proofs.lemmas.List.{length-map, map-append}
-use Rattle.std.proofs.lemmas.List.Folds.{list_any_none}
-use Rattle.tva_base.specs.Printable.{IsLine, IsPrintable}
-use Rattle.tva_report.specs.Lines.{ended, first_bad, is_ended_line, is_feed, is_line, is_printable, pieces, report_lines, text_of, without_feed}
+use Rattle.tva_report.proofs.Common.{◌≡◌, ℕ, ◌+◌, ◌≤◌, Bool, true, false, not, List, [], ◌∷◌, ◌++◌, length, map, refl, sym, ◌∙◌, ap, arith, inl, inr, None, All, append_assoc, add-zero, subst, ◌&&◌, nat_le, list_all, list_any, onto_first, position_from, AllByRecursion, cases_Bool, le-leb, eqb-true, ne_eqb, All-weaker, All-map, recursion_from_All, AllPass-from_list_all, list_all-from_AllPass, length-map, map-append, list_any_none, IsLine, IsPrintable, ended, first_bad, is_ended_line, is_feed, is_line, is_printable, pieces, report_lines, text_of, without_feed}
 use Rattle.tva_report.proofs.Comparing.{are_lines, both_true, fits_line, some_byte}
 use Rattle.tva_report.proofs.Cuts.{HasNoFeed, any_feed-ended, before-cons, pieces_ended, without_feed-ended}
 

@@ -1,9 +1,5 @@
 -- A report is compared with a whole text that it goes on with.
-use Rattle.std.proofs.Common.{◌≡◌, ℕ, ◌+◌, List, [], ◌∷◌, ◌++◌, length, true, false, None, Some, Option, is_some, refl, sym, ap, ◌∙◌, append_assoc}
-use Rattle.tva_report.specs.Ahead.{Ahead, IsPast}
-use Rattle.tva_report.specs.Compared.{Compared, Leads, StandsFor, compared}
-use Rattle.tva_report.specs.Differences.{difference_from, first_difference}
-use Rattle.tva_report.specs.Lines.{first_bad, report_lines}
+use Rattle.tva_report.proofs.Common.{◌≡◌, ℕ, ◌+◌, List, [], ◌∷◌, ◌++◌, length, true, false, None, Some, Option, is_some, refl, sym, ap, ◌∙◌, append_assoc, Ahead, IsPast, Compared, Leads, StandsFor, compared, difference_from, first_difference, first_bad, report_lines}
 use Rattle.tva_report.proofs.Comparing.{outcome_kept}
 use Rattle.tva_report.proofs.Differing.{past_same}
 use Rattle.tva_report.proofs.LinesBack.{bad_before, lines_before}

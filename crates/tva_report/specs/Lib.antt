@@ -2,3 +2,8 @@ pub mod Lines
 pub mod Differences
 pub mod Ahead
 pub mod Compared
+pub mod Charged
+pub mod Pairs
+pub mod Sums
+pub mod Worst
+pub mod Table

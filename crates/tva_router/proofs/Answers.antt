@@ -1,24 +1,12 @@
 -- What the answers to arrivals leave.
-use Rattle.std.proofs.Common.{◌≡◌, ℕ, ◌<◌, ◌≤◌, List, ◌++◌, length, Option, Some, None, refl, sym, subst, arith, append-nil}
+use Rattle.tva_router.proofs.Common.{◌≡◌, ℕ, ◌<◌, ◌≤◌, List, ◌++◌, length, Option, Some, None, refl, sym, subst, arith, append-nil, RouterPlan, Verdict, Charge, charged, AreTimely, is_good, IsGoodOrNone, AreShown, Cache, Arrival, Guard, answer_of, charged_by, IsGuard, IsKnownAt, Keeps, grant_in}
 use Rattle.std.specs.Option.{IfSome}
-use Rattle.tva_base.specs.declared.plan.RouterPlan.{RouterPlan}
-use Rattle.tva_flow.specs.declared.verdicts.Verdict.{Verdict}
 use Rattle.tva_flow.specs.declared.verdicts.Verdict.TheVariants as verdict
-use Rattle.tva_flow.specs.Charges.{Charge}
-use Rattle.tva_flow.specs.Verdicts.{charged}
-use Rattle.tva_flow.specs.Budget.{AreTimely}
-use Rattle.tva_caps.specs.Known.{is_good, IsGoodOrNone}
 use Rattle.tva_caps.specs.declared.known.Good.{Good}
 use Rattle.tva_flow.specs.declared.kept.Entry.{Entry}
-use Rattle.tva_flow.specs.Places.{AreShown}
-use Rattle.tva_flow.specs.Stands.{Cache, StandsFor}
+use Rattle.tva_flow.specs.Stands.{StandsFor}
 use Rattle.tva_flow.proofs.Indexed.{some_place}
 use Rattle.tva_flow.proofs.Shown.{shown-get}
-use Rattle.tva_router.specs.declared.judged.Arrival.{Arrival}
-use Rattle.tva_router.specs.declared.guard.Guard.{Guard}
-use Rattle.tva_router.specs.Judging.{answer_of}
-use Rattle.tva_router.specs.Handling.{charged_by}
-use Rattle.tva_router.specs.Steps.{IsGuard, IsKnownAt, Keeps, grant_in}
 
 pub guard-later : (plan : RouterPlan) (last now : ℕ) (g : Guard) → last ≤ now → IsGuard plan last g → IsGuard plan now g
 guard-later plan last now g le k = record {

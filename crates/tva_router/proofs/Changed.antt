@@ -1,27 +1,7 @@
 -- What is left of a router where its plan in force gets another master, or a route another link.
-use Rattle.std.proofs.Common.{◌≡◌, ℕ, ◌+◌, ◌<◌, ◌≤◌, Bool, true, false, cond, List, [], ◌∷◌, length, get_or, set, map, Some, None, refl, sym, ap, ◌∙◌, subst, zero, suc, arith}
-use Rattle.std.specs.Prelude.{Contains}
-use Rattle.std.specs.List.{All, AllByRecursion, position, position_from}
-use Rattle.std.proofs.lemmas.List.Elements.{All-nil, All-map, All-weaker}
-use Rattle.std.proofs.lemmas.List.Quantifiers.{position-Some}
-use Rattle.std.proofs.lemmas.Iterator.Adapters.{position_from-zero}
-use Rattle.tva_base.specs.Plan.{IsRouterPlan, IsPrefix, AreDistinct, links_of}
-use Rattle.tva_base.specs.Changes.{same_prefix, changed_plan}
-use Rattle.tva_base.specs.declared.addresses.Prefix.{Prefix}
-use Rattle.tva_base.specs.declared.plan.Route.{Route}
-use Rattle.tva_base.specs.declared.plan.RouterPlan.{RouterPlan}
-use Rattle.tva_flow.specs.Charges.{Charge}
-use Rattle.tva_flow.specs.Budget.{IsWithinSeconds}
+use Rattle.tva_router.proofs.Common.{◌≡◌, ℕ, ◌+◌, ◌<◌, ◌≤◌, Bool, true, false, cond, List, [], ◌∷◌, length, get_or, set, map, Some, None, refl, sym, ap, ◌∙◌, subst, zero, suc, arith, Contains, All, AllByRecursion, position, position_from, All-nil, All-map, All-weaker, position-Some, position_from-zero, IsRouterPlan, IsPrefix, AreDistinct, links_of, same_prefix, changed_plan, Prefix, Route, RouterPlan, Charge, IsWithinSeconds, route_with, rerouted, PortLogs, router_data, StandsFor, IsGuard, IsSound, has_prefix, IsTableOf, AreWays, Ways, Guard, RouteTable}
 use Rattle.tva_flow.specs.Stands as flows
 use Rattle.tva_port.specs.Stands as port
-use Rattle.tva_router.specs.Routes.{route_with, rerouted}
-use Rattle.tva_router.specs.Handling.{PortLogs}
-use Rattle.tva_router.specs.Stands.{router_data, StandsFor}
-use Rattle.tva_router.specs.Steps.{IsGuard, IsSound}
-use Rattle.tva_router.specs.Tables.{has_prefix, IsTableOf, AreWays}
-use Rattle.tva_router.specs.declared.finding.Ways.{Ways}
-use Rattle.tva_router.specs.declared.guard.Guard.{Guard}
-use Rattle.tva_router.specs.declared.routes.RouteTable.{RouteTable}
 use Rattle.tva_router.proofs.Answers.{guard-later}
 use Rattle.tva_router.proofs.Handled.{by-plan}
 use Rattle.tva_router.proofs.Ports.{same_link, ports-later}

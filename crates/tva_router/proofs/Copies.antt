@@ -1,6 +1,5 @@
 -- A copy of a restart.
-use Rattle.std.proofs.Common.{◌≡◌, ℕ, List, refl, subst}
-use Rattle.tva_base.specs.declared.packet.Time.{Time}
+use Rattle.tva_router.proofs.Common.{◌≡◌, ℕ, List, refl, subst, Time}
 
 pub restart_copied : (x y : Time × List ℕ) → y.0 ≡ x.0 → y.1 ≡ x.1 → y ≡ x
 restart_copied x y time master = subst (λ (t : Time). y ≡ (t, x.1)) time (subst (λ (m : List ℕ). y ≡ (y.0, m)) master refl)

@@ -1,36 +1,13 @@
 -- What every fate tells: the mark, the charge, and what was queued.
-use Rattle.std.proofs.Common.{◌≡◌, ℕ, Bool, true, false, ◌||◌, cond, eqb, leb, List, [], length, slice_get, Option, Some, None, Ok, Err, refl, sym}
-use Rattle.tva_base.specs.declared.limits.LinkLimits.{LinkLimits}
-use Rattle.tva_base.specs.declared.packet.Rights.{Rights}
-use Rattle.tva_base.specs.declared.packet.Class.{Class}
+use Rattle.tva_router.proofs.Common.{◌≡◌, ℕ, Bool, true, false, ◌||◌, cond, eqb, leb, List, [], length, slice_get, Option, Some, None, Ok, Err, refl, sym, LinkLimits, Rights, Class, RouterPlan, Shown, Kind, Carried, ShimData, entries_of, with_entry, with_next_pointer, with_fresh, PacketData, packet_length, check_of, Checked, Offered, Verdict, Charge, list_verdict, nonce_verdict, Entry, queued_by, Arrival, Answer, tag_of, second_of, fresh_for, answer_of, answer_to_checked, answer_to_cap, answer_to_shown, answer_to_nonce, judged, marked, judged_by, judged_request, judged_kind, judged_shim, judge, Judged, key_of, nonce_in, PortLogs, Handled, offered, outcome_of, sent, queued, entered_by, entered, goes_on, charged_by, arrival, way_to, stopped, forwarded, handle}
 use Rattle.tva_base.specs.declared.packet.Class.TheVariants as class
 use Rattle.tva_base.specs.declared.packet.Cause.TheVariants as cause
-use Rattle.tva_base.specs.declared.plan.RouterPlan.{RouterPlan}
 use Rattle.tva_shim.specs.declared.entries.Entry as entries
-use Rattle.tva_shim.specs.declared.kinds.Shown.{Shown}
-use Rattle.tva_shim.specs.declared.kinds.Kind.{Kind}
 use Rattle.tva_shim.specs.declared.kinds.Kind.TheVariants as kinds
-use Rattle.tva_shim.specs.declared.packets.Carried.{Carried}
 use Rattle.tva_shim.specs.declared.packets.Carried.TheVariants as carried
-use Rattle.tva_shim.specs.Shims.{ShimData, entries_of}
-use Rattle.tva_shim.specs.Changes.{with_entry, with_next_pointer, with_fresh}
-use Rattle.tva_shim.specs.Packets.{PacketData, packet_length}
-use Rattle.tva_caps.specs.Check.{check_of}
-use Rattle.tva_caps.specs.declared.minters.Checked.{Checked}
 use Rattle.tva_caps.specs.declared.minters.Checked.TheVariants as checks
-use Rattle.tva_drr.specs.declared.offered.Offered.{Offered}
 use Rattle.tva_drr.specs.declared.offered.Offered.TheVariants as offers
-use Rattle.tva_flow.specs.declared.verdicts.Verdict.{Verdict}
 use Rattle.tva_flow.specs.declared.verdicts.Verdict.TheVariants as verdict
-use Rattle.tva_flow.specs.Charges.{Charge}
-use Rattle.tva_flow.specs.Verdicts.{list_verdict, nonce_verdict}
-use Rattle.tva_port.specs.Log.{Entry}
-use Rattle.tva_port.specs.Waiting.{queued_by}
-use Rattle.tva_router.specs.declared.judged.Arrival.{Arrival}
-use Rattle.tva_router.specs.Judging.{Answer, tag_of, second_of, fresh_for, answer_of, answer_to_checked, answer_to_cap, answer_to_shown, answer_to_nonce, judged, marked, judged_by, judged_request, judged_kind, judged_shim, judge}
-use Rattle.tva_router.specs.declared.judged.Judged.{Judged}
-use Rattle.tva_shim.specs.Shows.{key_of, nonce_in}
-use Rattle.tva_router.specs.Handling.{PortLogs, Handled, offered, outcome_of, sent, queued, entered_by, entered, goes_on, charged_by, arrival, way_to, stopped, forwarded, handle}
 use Rattle.tva_router.specs.Marks.{is_marked, calls_for_mark}
 
 -- ## the mark

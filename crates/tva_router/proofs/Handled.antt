@@ -1,26 +1,8 @@
 -- What a router stands for after an arrival.
-use Rattle.std.proofs.Common.{◌≡◌, ℕ, ◌≤◌, Bool, true, false, cond, leb, List, [], ◌∷◌, ◌++◌, Option, None, refl, sym, ap, ◌∙◌, subst, arith, append-nil}
-use Rattle.std.specs.List.{All}
-use Rattle.std.proofs.lemmas.List.Elements.{All-nil, All-cons, All-weaker}
-use Rattle.tva_base.specs.declared.limits.LinkLimits.{LinkLimits}
-use Rattle.tva_base.specs.declared.packet.Fate.{Fate}
-use Rattle.tva_base.specs.declared.packet.Outcome.{Outcome}
-use Rattle.tva_base.specs.declared.plan.RouterPlan.{RouterPlan}
+use Rattle.tva_router.proofs.Common.{◌≡◌, ℕ, ◌≤◌, Bool, true, false, cond, leb, List, [], ◌∷◌, ◌++◌, Option, None, refl, sym, ap, ◌∙◌, subst, arith, append-nil, All, All-nil, All-cons, All-weaker, LinkLimits, Fate, Outcome, RouterPlan, PacketData, packet_length, MinterState, Charge, AreTimely, Guard, Judged, Ways, judge, nonce_in, PortLogs, Handled, arrival, goes_on, handle, stopped, fate_of, forwarded, sent, queued, way_to, charged_by, RouterData, router_data, IsByPlan, StandsFor, StandForLogs, ◌with◌, ArePorts, IsSound, Keeps}
 use Rattle.tva_base.specs.declared.packet.Grant.{Grant}
-use Rattle.tva_shim.specs.Packets.{PacketData, packet_length}
-use Rattle.tva_caps.specs.Minting.{MinterState}
-use Rattle.tva_flow.specs.Charges.{Charge}
-use Rattle.tva_flow.specs.Budget.{AreTimely}
 use Rattle.tva_flow.specs.Stands as flows
 use Rattle.tva_port.specs.Stands as port
-use Rattle.tva_router.specs.declared.guard.Guard.{Guard}
-use Rattle.tva_router.specs.declared.judged.Judged.{Judged}
-use Rattle.tva_router.specs.declared.finding.Ways.{Ways}
-use Rattle.tva_router.specs.Judging.{judge}
-use Rattle.tva_shim.specs.Shows.{nonce_in}
-use Rattle.tva_router.specs.Handling.{PortLogs, Handled, arrival, goes_on, handle, stopped, fate_of, forwarded, sent, queued, way_to, charged_by}
-use Rattle.tva_router.specs.Stands.{RouterData, router_data, IsByPlan, StandsFor, StandForLogs, ◌with◌}
-use Rattle.tva_router.specs.Steps.{ArePorts, IsSound, Keeps}
 use Rattle.tva_router.proofs.Answers.{guard-later}
 use Rattle.tva_router.proofs.Ports.{ports-later, stands-nothing}
 

@@ -1,14 +1,6 @@
 -- What the plan in force at a time keeps of the plan.
-use Rattle.std.proofs.Common.{◌≡◌, ℕ, List, [], ◌∷◌, map, refl, ap}
-use Rattle.std.specs.Prelude.{Contains}
-use Rattle.std.specs.List.{All, filter}
-use Rattle.std.proofs.lemmas.List.Elements.{All-head, All-tail, All-map, All-weaker, All-filter}
-use Rattle.tva_base.specs.Plan.{IsRouterPlan, IsPrefix, links_of}
-use Rattle.tva_base.specs.Changes.{last_of, has_come, master_at, same_prefix, of_prefix, route_at, in_force}
-use Rattle.tva_base.specs.declared.addresses.Prefix.{Prefix}
-use Rattle.tva_base.specs.declared.packet.Time.{Time}
-use Rattle.tva_base.specs.declared.plan.Route.{Route}
-use Rattle.tva_base.specs.declared.plan.RouterPlan.{RouterPlan}
+use Rattle.tva_router.proofs.Common.{◌≡◌, ℕ, List, [], ◌∷◌, map, refl, ap, Contains, All, All-head, All-tail, All-map, All-weaker, All-filter, IsRouterPlan, IsPrefix, links_of, last_of, has_come, master_at, same_prefix, of_prefix, route_at, in_force, Prefix, Time, Route, RouterPlan}
+use Rattle.std.specs.List.{filter}
 use Rattle.tva_router.proofs.Changed.{changed_valid}
 
 pub last_all : {X : Type 0} (P : X → Type 0) (x : X) (xs : List X) → P x → All P xs → P (last_of x xs)

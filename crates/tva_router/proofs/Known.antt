@@ -1,27 +1,6 @@
 -- What is known of the log of an outgoing link, where a router stands for it.
-use Rattle.std.proofs.Common.{◌≡◌, ℕ, ◌≤◌, max, Bool, true, false, cond, eqb, leb, List, [], ◌∷◌, ◌++◌, Option, Some, None, refl, sym, ap, ◌∙◌, subst, arith, append-nil}
-use Rattle.std.specs.List.{All, find}
-use Rattle.std.proofs.lemmas.Bool.Decides.{nat_tests}
-use Rattle.std.proofs.lemmas.List.Elements.{All-head, All-tail}
-use Rattle.tva_base.specs.Plan.{AreLinkLimits}
-use Rattle.tva_base.specs.declared.limits.LinkLimits.{LinkLimits}
-use Rattle.tva_base.specs.declared.packet.Class.{Class}
-use Rattle.tva_base.specs.declared.plan.RouterPlan.{RouterPlan}
-use Rattle.tva_shim.specs.Packets.{PacketData}
-use Rattle.tva_flow.specs.Charges.{Charge}
-use Rattle.tva_port.specs.declared.decision.Decision.{Decision}
-use Rattle.tva_port.specs.Log.{Entry, NoneLater, free_after}
-use Rattle.tva_port.specs.Waiting.{queued_by}
-use Rattle.tva_port.specs.Decide.{started_by, MissesNone, NoneDueBefore}
-use Rattle.tva_port.specs.Legal.{IsLegal}
-use Rattle.tva_port.specs.Stands.{PortData}
+use Rattle.tva_router.proofs.Common.{◌≡◌, ℕ, ◌≤◌, max, Bool, true, false, cond, eqb, leb, List, [], ◌∷◌, ◌++◌, Option, Some, None, refl, sym, ap, ◌∙◌, subst, arith, append-nil, All, find, nat_tests, All-head, All-tail, AreLinkLimits, LinkLimits, Class, RouterPlan, PacketData, Charge, Decision, Entry, NoneLater, free_after, queued_by, started_by, MissesNone, NoneDueBefore, IsLegal, PortData, later-weaker, misses_offered, judge, key_of, PortLogs, outgoing_link, offered, queued, goes_on, arrival, way_to, stopped, forwarded, handle, RouterData, StandForLogs, StandsFor, free_in, free_of, started_on, ◌with◌}
 use Rattle.tva_port.specs.Stands as port
-use Rattle.tva_port.proofs.Logs.{later-weaker}
-use Rattle.tva_port.proofs.Steady.{misses_offered}
-use Rattle.tva_router.specs.Judging.{judge}
-use Rattle.tva_shim.specs.Shows.{key_of}
-use Rattle.tva_router.specs.Handling.{PortLogs, outgoing_link, offered, queued, goes_on, arrival, way_to, stopped, forwarded, handle}
-use Rattle.tva_router.specs.Stands.{RouterData, StandForLogs, StandsFor, free_in, free_of, started_on, ◌with◌}
 
 -- the port of a link: it has the link's limits, and stands for the link's log
 record IsPort (last : ℕ) (limits : LinkLimits) (log : List Entry) (end : ℕ) (p : PortData) : Type 0 where

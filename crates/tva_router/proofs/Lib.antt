@@ -1,3 +1,4 @@
+mod Common
 pub mod Links
 pub mod Ports
 pub mod Answers

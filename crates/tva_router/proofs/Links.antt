@@ -1,10 +1,8 @@
 -- Places in lists, and the place of a link in a list of links.
-use Rattle.std.proofs.Common.{◌≡◌, ℕ, Bool, ◌<◌, ◌≤◌, true, false, List, [], ◌∷◌, length, get_or, slice_get, Some, None, eqb, ap, ◌∙◌, zero, suc, arith}
+use Rattle.tva_router.proofs.Common.{◌≡◌, ℕ, Bool, ◌<◌, ◌≤◌, true, false, List, [], ◌∷◌, length, get_or, slice_get, Some, None, eqb, ap, ◌∙◌, zero, suc, arith, find, position, position_or_len, position-Some}
 use Rattle.std.proofs.lemmas.Grind.{common_steps}
-use Rattle.std.specs.List.{find, position, position_or_len}
 use Rattle.std.proofs.lemmas.List.Folds.{find_at}
 use Rattle.std.proofs.lemmas.Option.{slice_get-get_or, slice_get_past}
-use Rattle.std.proofs.lemmas.List.Quantifiers.{position-Some}
 
 module _ {X : Type 0} where
   -- the link stands in that place, and in none before it

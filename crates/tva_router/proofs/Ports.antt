@@ -1,16 +1,6 @@
 -- The ports of a router by its outgoing links.
-use Rattle.std.proofs.Common.{◌≡◌, ℕ, ◌<◌, ◌≤◌, true, false, List, [], ◌∷◌, ◌++◌, ◌+◌, length, take, get_or, set, Option, eqb, cond, refl, sym, ap, ◌∙◌, subst, zero, suc, arith, append-nil}
-use Rattle.std.specs.Prelude.{Contains}
-use Rattle.std.specs.List.{position}
-use Rattle.std.proofs.lemmas.List.{take_more}
-use Rattle.std.proofs.lemmas.Bool.Decides.{nat_tests}
-use Rattle.tva_base.specs.Plan.{AreDistinct, links_of}
-use Rattle.tva_base.specs.declared.limits.LinkLimits.{LinkLimits}
-use Rattle.tva_port.specs.Log.{Entry}
-use Rattle.tva_port.specs.Stands.{PortData, StandsFor}
-use Rattle.tva_router.specs.Handling.{PortLogs}
-use Rattle.tva_router.specs.Stands.{StandForLogs, free_in, ◌with◌}
-use Rattle.tva_router.specs.Steps.{ArePorts}
+use Rattle.tva_router.proofs.Common.{◌≡◌, ℕ, ◌<◌, ◌≤◌, true, false, List, [], ◌∷◌, ◌++◌, ◌+◌, length, take, get_or, set, Option, eqb, cond, refl, sym, ap, ◌∙◌, subst, zero, suc, arith, append-nil, Contains, position, take_more, nat_tests, AreDistinct, links_of, LinkLimits, Entry, PortData, PortLogs, StandForLogs, free_in, ◌with◌, ArePorts}
+use Rattle.tva_port.specs.Stands.{StandsFor}
 use Rattle.tva_router.proofs.Links.{IsAt}
 
 -- as many as links

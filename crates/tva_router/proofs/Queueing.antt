@@ -1,21 +1,8 @@
 -- A packet that is queued at the port of its link.
-use Rattle.std.proofs.Common.{◌≡◌, ℕ, List, [], ◌++◌, get_or, set, Option, Some, eqb, cond, refl, sym, ap, ◌∙◌, subst}
-use Rattle.std.specs.List.{find, position}
-use Rattle.tva_base.specs.Plan.{AreDistinct, links_of}
-use Rattle.tva_base.specs.declared.limits.LinkLimits.{LinkLimits}
-use Rattle.tva_base.specs.declared.packet.Class.{Class}
-use Rattle.tva_shim.specs.Packets.{PacketData}
-use Rattle.tva_drr.specs.declared.offered.Offered.{Offered}
-use Rattle.tva_port.specs.Log.{Entry}
-use Rattle.tva_port.specs.Waiting.{waiting_after, queue_answer, queued_by}
-use Rattle.tva_port.specs.Stands.{PortData, StandsFor}
-use Rattle.tva_shim.specs.Shows.{key_of}
+use Rattle.tva_router.proofs.Common.{◌≡◌, ℕ, List, [], ◌++◌, get_or, set, Option, Some, eqb, cond, refl, sym, ap, ◌∙◌, subst, find, position, AreDistinct, links_of, LinkLimits, Class, PacketData, Offered, Entry, waiting_after, queue_answer, queued_by, PortData, key_of, AreOneAnswer, answer_by, kept_by, PortLogs, offered, outcome_of, sent, queued, kept_after, StandForLogs, ◌with◌, ArePorts}
+use Rattle.tva_port.specs.Stands.{StandsFor}
 use Rattle.tva_port.specs.declared.hand.Answer.{Answer}
 use Rattle.tva_port.specs.declared.hand.Answer.TheVariants as answers
-use Rattle.tva_port.specs.Hand.{AreOneAnswer, answer_by, kept_by}
-use Rattle.tva_router.specs.Handling.{PortLogs, offered, outcome_of, sent, queued, kept_after}
-use Rattle.tva_router.specs.Stands.{StandForLogs, ◌with◌}
-use Rattle.tva_router.specs.Steps.{ArePorts}
 use Rattle.tva_router.proofs.Links.{is_at, at_within, at_link, find_there}
 use Rattle.tva_router.proofs.Ports.{ports-length, port-get, stands-get, stands-set, same_link}
 

@@ -1,28 +1,10 @@
 -- What a router judges depends on no routes.
-use Rattle.std.proofs.Common.{◌≡◌, ℕ, true, false, cond, eqb, leb, List, length, slice_get, Option, Some, None, refl, sym, ap, ◌∙◌}
-use Rattle.tva_base.specs.declared.packet.Rights.{Rights}
+use Rattle.tva_router.proofs.Common.{◌≡◌, ℕ, true, false, cond, eqb, leb, List, length, slice_get, Option, Some, None, refl, sym, ap, ◌∙◌, Rights, Route, RouterPlan, changed_plan, Shown, Kind, Carried, ShimData, entries_of, with_entry, with_next_pointer, with_fresh, PacketData, check_of, Checked, Charge, Arrival, Judged, Answer, tag_of, second_of, fresh_for, answer_to_checked, answer_to_cap, answer_to_shown, answer_to_nonce, judged, marked, judged_by, judged_request, judged_kind, judged_shim, judge, PortLogs, Handled, arrival, stopped, forwarded, with_routes, handle, RouterData}
 use Rattle.tva_base.specs.declared.packet.Class.TheVariants as class
 use Rattle.tva_base.specs.declared.packet.Cause.TheVariants as cause
-use Rattle.tva_base.specs.declared.plan.Route.{Route}
-use Rattle.tva_base.specs.declared.plan.RouterPlan.{RouterPlan}
-use Rattle.tva_base.specs.Changes.{changed_plan}
-use Rattle.tva_shim.specs.declared.kinds.Shown.{Shown}
-use Rattle.tva_shim.specs.declared.kinds.Kind.{Kind}
 use Rattle.tva_shim.specs.declared.kinds.Kind.TheVariants as kinds
-use Rattle.tva_shim.specs.declared.packets.Carried.{Carried}
 use Rattle.tva_shim.specs.declared.packets.Carried.TheVariants as carried
-use Rattle.tva_shim.specs.Shims.{ShimData, entries_of}
-use Rattle.tva_shim.specs.Changes.{with_entry, with_next_pointer, with_fresh}
-use Rattle.tva_shim.specs.Packets.{PacketData}
-use Rattle.tva_caps.specs.Check.{check_of}
-use Rattle.tva_caps.specs.declared.minters.Checked.{Checked}
 use Rattle.tva_caps.specs.declared.minters.Checked.TheVariants as checks
-use Rattle.tva_flow.specs.Charges.{Charge}
-use Rattle.tva_router.specs.declared.judged.Arrival.{Arrival}
-use Rattle.tva_router.specs.declared.judged.Judged.{Judged}
-use Rattle.tva_router.specs.Judging.{Answer, tag_of, second_of, fresh_for, answer_to_checked, answer_to_cap, answer_to_shown, answer_to_nonce, judged, marked, judged_by, judged_request, judged_kind, judged_shim, judge}
-use Rattle.tva_router.specs.Handling.{PortLogs, Handled, arrival, stopped, forwarded, with_routes, handle}
-use Rattle.tva_router.specs.Stands.{RouterData}
 
 module _ (plan : RouterPlan) (routes : List Route) (h : List Charge) (a : Arrival) where
   tag_same : (from : Option ℕ) → tag_of (with_routes routes plan) from ≡ tag_of plan from

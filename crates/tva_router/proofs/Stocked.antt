@@ -1,32 +1,7 @@
 -- What waits for a router's links, over their logs, and memory for it where packets come by value.
-use Rattle.std.proofs.Common.{◌≡◌, ◌≢◌, ℕ, ◌+◌, ◌≤◌, true, false, cond, leb, List, [], ◌∷◌, ◌++◌, length, take, get_or, ◌<◌, Option, Some, None, eqb, refl, sym, ap, ◌∙◌, subst, arith, append-nil}
-use Rattle.std.specs.List.{All, find}
-use Rattle.std.specs.Option.{option_and_then}
-use Rattle.std.specs.Prelude.{Contains}
-use Rattle.std.proofs.lemmas.List.{take_more}
-use Rattle.std.proofs.lemmas.List.Elements.{All-head, All-tail}
-use Rattle.tva_base.specs.Plan.{AreDistinct, AreLinkLimits, links_of}
-use Rattle.tva_base.specs.declared.limits.LinkLimits.{LinkLimits}
-use Rattle.tva_base.specs.declared.packet.Class.{Class}
-use Rattle.tva_base.specs.declared.plan.RouterPlan.{RouterPlan}
-use Rattle.tva_shim.specs.Packets.{PacketData}
-use Rattle.tva_shim.specs.Shows.{key_of}
-use Rattle.tva_flow.specs.Charges.{Charge}
-use Rattle.tva_drr.specs.declared.offered.Offered.{Offered}
+use Rattle.tva_router.proofs.Common.{◌≡◌, ◌≢◌, ℕ, ◌+◌, ◌≤◌, true, false, cond, leb, List, [], ◌∷◌, ◌++◌, length, take, get_or, ◌<◌, Option, Some, None, eqb, refl, sym, ap, ◌∙◌, subst, arith, append-nil, All, find, option_and_then, Contains, take_more, All-head, All-tail, AreDistinct, AreLinkLimits, links_of, LinkLimits, Class, RouterPlan, PacketData, key_of, Charge, Offered, Decision, decision, started_by, IsLegal, Entry, PortData, waiting_after, queued_by, waits_none, waits_more, waits_less, waits_few, judge, link_to, PortLogs, outgoing_link, offered, outcome_of, sent, queued, goes_on, arrival, way_to, stopped, forwarded, handle, kept_after, RouterData, StandForLogs, StandsFor, started_on, ◌with◌, waiting_in, places_on, IsStocked}
 use Rattle.tva_drr.specs.declared.offered.Offered.TheVariants as offers
-use Rattle.tva_port.specs.declared.decision.Decision.{Decision}
 use Rattle.tva_port.specs.Counts.{waiting_count, queued_count, started_count, hand_count, places_in, StockData}
-use Rattle.tva_port.specs.Decide.{decision, started_by}
-use Rattle.tva_port.specs.Legal.{IsLegal}
-use Rattle.tva_port.specs.Log.{Entry}
-use Rattle.tva_port.specs.Stands.{PortData}
-use Rattle.tva_port.specs.Waiting.{waiting_after, queued_by}
-use Rattle.tva_port.proofs.Stocked.{waits_none, waits_more, waits_less, waits_few}
-use Rattle.tva_router.specs.Judging.{judge}
-use Rattle.tva_router.specs.Routes.{link_to}
-use Rattle.tva_router.specs.Handling.{PortLogs, outgoing_link, offered, outcome_of, sent, queued, goes_on, arrival, way_to, stopped, forwarded, handle, kept_after}
-use Rattle.tva_router.specs.Stands.{RouterData, StandForLogs, StandsFor, started_on, ◌with◌}
-use Rattle.tva_router.specs.Stocked.{waiting_in, places_on, IsStocked}
 use Rattle.tva_router.proofs.Known.{known}
 use Rattle.tva_router.proofs.Ports.{AreOthers, others, same_link}
 

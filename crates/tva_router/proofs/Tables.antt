@@ -1,20 +1,6 @@
 -- The tables of routes and of links.
-use Rattle.std.proofs.Common.{◌≡◌, ℕ, ◌+◌, ◌-◌, ◌<◌, ◌≤◌, Bool, true, false, ◌&&◌, cond, eqb, List, [], ◌∷◌, length, take, drop, get_or, set, Option, Some, None, IfSome, is_some, nat_eq, refl, sym, ap, ◌∙◌, subst, inl, inr, zero, suc, arith}
-use Rattle.std.specs.List.{All, AllByRecursion, find, position, position_from}
-use Rattle.std.specs.Option.{option_map}
-use Rattle.std.specs.HashMap.{get}
-use Rattle.std.proofs.lemmas.Bool.Decides.{eqb_tells, nat_tests}
-use Rattle.std.proofs.lemmas.List.{drop_more, get_or-set_same}
-use Rattle.std.proofs.lemmas.List.Elements.{All-more, All-weaker, recursion_from_All}
-use Rattle.std.proofs.lemmas.List.Quantifiers.{position-Some}
-use Rattle.std.proofs.lemmas.Iterator.Adapters.{position_from-zero}
-use Rattle.tva_base.specs.Addresses.{holds, kept}
-use Rattle.tva_base.specs.Plan.{IsPrefix}
-use Rattle.tva_base.specs.declared.addresses.Address.{Address}
-use Rattle.tva_base.specs.declared.plan.Route.{Route}
-use Rattle.tva_router.specs.Routes.{longest, leads, link_to}
-use Rattle.tva_router.specs.Tables.{Places, ArePlacesFrom, PrefixPlaces, same_prefix, has_prefix, AreRoutePlacesFrom, AreMarked, IsTableOf}
-use Rattle.tva_router.specs.declared.routes.RouteTable.{RouteTable}
+use Rattle.tva_router.proofs.Common.{◌≡◌, ℕ, ◌+◌, ◌-◌, ◌<◌, ◌≤◌, Bool, true, false, ◌&&◌, cond, eqb, List, [], ◌∷◌, length, take, drop, get_or, set, Option, Some, None, IfSome, is_some, nat_eq, refl, sym, ap, ◌∙◌, subst, inl, inr, zero, suc, arith, All, AllByRecursion, find, position, position_from, option_map, get, eqb_tells, nat_tests, drop_more, get_or-set_same, All-more, All-weaker, recursion_from_All, position-Some, position_from-zero, holds, kept, IsPrefix, Address, Route, longest, leads, link_to, Places, ArePlacesFrom, PrefixPlaces, has_prefix, AreRoutePlacesFrom, AreMarked, IsTableOf, RouteTable}
+use Rattle.tva_router.specs.Tables.{same_prefix}
 use Rattle.tva_router.proofs.Links.{is_at, at_within, find_there, find_nowhere}
 use Rattle.tva_router.proofs.Ports.{same_link}
 use Rattle.tva_router.proofs.Ways.{all_at, found_is, none_is, Within, greatest, reached, both, leads_is, link_none, not_true}

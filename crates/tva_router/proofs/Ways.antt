@@ -1,14 +1,5 @@
 -- The route that a look-up finds is the one with the longest prefix.
-use Rattle.std.proofs.Common.{◌≡◌, ◌⊎◌, ℕ, ◌≤◌, max, Bool, true, false, ◌&&◌, cond, eqb, List, [], ◌∷◌, map, filter, Option, Some, None, refl, sym, subst, inl, inr, suc, arith}
-use Rattle.std.specs.Prelude.{Contains}
-use Rattle.std.specs.List.{All, find, fold}
-use Rattle.std.specs.Option.{option_map}
-use Rattle.std.proofs.lemmas.List.Elements.{All-nil, All-cons}
-use Rattle.tva_base.specs.Addresses.{holds}
-use Rattle.tva_base.specs.declared.addresses.Address.{Address}
-use Rattle.tva_base.specs.declared.plan.Route.{Route}
-use Rattle.tva_router.specs.Routes.{longest, leads, link_to, IsWay}
-use Rattle.std.proofs.lemmas.Bool.Decides.{leb_tells, nat_tests}
+use Rattle.tva_router.proofs.Common.{◌≡◌, ◌⊎◌, ℕ, ◌≤◌, max, Bool, true, false, ◌&&◌, cond, eqb, List, [], ◌∷◌, map, filter, Option, Some, None, refl, sym, subst, inl, inr, suc, arith, Contains, All, find, fold, option_map, All-nil, All-cons, holds, Address, Route, longest, leads, link_to, IsWay, leb_tells, nat_tests}
 use Rattle.tva_router.proofs.Ports.{same_link}
 
 module _ {X : Type 0} where

@@ -1,21 +1,16 @@
 -- Which rows brief forms stand for, and that layouts put behind others change none of them.
-use Rattle.std.proofs.Common.{◌≡◌, ℕ, ◌+◌, ◌≤◌, List, [], ◌∷◌, ◌++◌, length, take, drop, get_or, refl, sym, ap, subst, ◌∙◌, inl, inr, arith, length-append, length-drop}
-use Rattle.std.specs.Prelude.{◌⊎◌}
+use Rattle.tva_rows.proofs.Common.{◌≡◌, ℕ, ◌+◌, ◌≤◌, List, [], ◌∷◌, ◌++◌, length, take, drop, get_or, refl, sym, ap, subst, ◌∙◌, inl, inr, arith, length-append, length-drop, ◌⊎◌, HaveNoShim, layout, BriefRow, AreHeld, Grows, IsLayoutAt, IsWhatHeld, part, row_in, rows_in, shim_in, told_by, what_in}
 use Rattle.std.proofs.Math.Seq.{drop-append_seam, take-length}
 use Rattle.std.proofs.lemmas.List.{drop-append-le, take-append-le, map-append}
 use Rattle.std.proofs.lemmas.List.Elements.{All-head, All-tail, All-push}
 use Rattle.tva_shim.specs.declared.packets.Carried.TheVariants as carried
 use Rattle.tva_shim.specs.Shims.{ShimData, IsShim}
-use Rattle.tva_shim.specs.Layout.{HaveNoShim, layout}
 use Rattle.tva_shim.proofs.Readable.{one_shim, shim_or_none}
-use Rattle.tva_rows.specs.declared.brief.BriefRow.{BriefRow}
 use Rattle.tva_rows.specs.declared.brief.BriefWhat.{BriefWhat}
 use Rattle.tva_rows.specs.declared.brief.BriefWhat.TheVariants as brief
 use Rattle.tva_rows.specs.declared.rows.Row.{Row}
 use Rattle.tva_rows.specs.declared.rows.RowWhat.{RowWhat}
 use Rattle.tva_rows.specs.declared.rows.RowWhat.TheVariants as what
-use Rattle.tva_rows.specs.Brief.{AreHeld, Grows, IsLayoutAt, IsWhatHeld, part, row_in, rows_in, shim_in, told_by}
-use Rattle.tva_rows.specs.Brief.{what_in}
 
 -- ---- the shim of a layout
 

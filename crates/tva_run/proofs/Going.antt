@@ -1,29 +1,9 @@
 -- How a run goes on: over a window, and where nothing is to be done.
-use Rattle.std.proofs.Common.{◌≡◌, ℕ, zero, suc, ◌+◌, ◌<◌, ◌≤◌, List, [], ◌∷◌, ◌++◌, length, Some, refl, sym, subst, ◌∙◌, ap, ap₂, arith, inl, inr}
-use Rattle.std.specs.Prelude.{nat_lt, ◌==◌, slice_get}
-use Rattle.std.specs.Option.{option_map}
-use Rattle.std.specs.List.{AllByRecursion}
-use Rattle.std.proofs.lemmas.Bool.{lt-ltb, le-ltb, cases_lt}
-use Rattle.std.proofs.lemmas.List.{get_or_past, append_cancel_left, append-nil}
-use Rattle.std.proofs.lemmas.List.Elements.{filter-append}
-use Rattle.std.proofs.lemmas.Option.{slice_get_cases}
-use Rattle.tva_base.specs.declared.event.Event.{Event}
-use Rattle.tva_base.specs.declared.plan.LinkPlan.{LinkPlan}
-use Rattle.tva_plan.specs.declared.config.Config.{Config}
-use Rattle.tva_plan.specs.declared.config.NodePlan.{NodePlan}
-use Rattle.tva_rows.specs.declared.rows.Row.{Row}
-use Rattle.tva_log.specs.Joins.{IsJoin, cut}
-use Rattle.tva_log.proofs.Joins.{filter-true, filter-false, in_order-filter, in_order-append, join_unique, cut-cut, each-cut}
-use Rattle.tva_log.proofs.Putting.{each_from_sources}
-use Rattle.tva_log.specs.Sites.{Site, site_of}
-use Rattle.tva_log.specs.Entries.{input_time, input_source, entry_time}
-use Rattle.tva_log.specs.NodeLog.{IsNodeLog, due}
-use Rattle.tva_log.proofs.Logs.{IsNodeLog-cut, IsNodeLog-same, IsNodeLog-unique}
-use Rattle.tva_log.proofs.Quiet.{quiet_log}
-use Rattle.tva_run.specs.Reaching.{Logs, log_at, links_out, site_at, reaches}
-use Rattle.tva_run.specs.Run.{HasLog, IsRunTo, logs_before}
-use Rattle.tva_run.specs.Report.{event_time, event_node, events_at, AreEvents}
-use Rattle.tva_run.specs.Windows.{least_delay, window_length, IsAtRest}
+use Rattle.tva_run.proofs.Common.{◌≡◌, ℕ, zero, suc, ◌+◌, ◌<◌, ◌≤◌, List, [], ◌∷◌, ◌++◌, length, Some, refl, sym, subst, ◌∙◌, ap, ap₂, arith, inl, inr, nat_lt, ◌==◌, slice_get, option_map, AllByRecursion, lt-ltb, le-ltb, cases_lt, get_or_past, append_cancel_left, append-nil, filter-append, slice_get_cases, Event, LinkPlan, Config, NodePlan, Row, IsJoin, cut, Site, site_of, input_time, input_source, entry_time, IsNodeLog, due, Logs, log_at, links_out, site_at, reaches, HasLog, IsRunTo, logs_before, event_time, event_node, events_at, AreEvents, least_delay, window_length, IsAtRest}
+use Rattle.tva_run.proofs.Joins.{filter-true, filter-false, in_order-filter, in_order-append, join_unique, cut-cut, each-cut}
+use Rattle.tva_run.proofs.Putting.{each_from_sources}
+use Rattle.tva_run.proofs.Logs.{IsNodeLog-cut, IsNodeLog-same, IsNodeLog-unique}
+use Rattle.tva_run.proofs.Quiet.{quiet_log}
 use Rattle.tva_run.proofs.Runs.{source_due, reaches_same}
 use Rattle.tva_run.proofs.Reports.{events_at-before}
 

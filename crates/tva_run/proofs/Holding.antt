@@ -1,40 +1,13 @@
 -- All that happens in a run happens in its windows.
-use Rattle.std.proofs.Common.{◌≡◌, ℕ, suc, ◌+◌, ◌<◌, ◌≤◌, List, [], ◌∷◌, ◌++◌, length, map, filter, true, false, Option, Some, None, refl, sym, subst, ◌∙◌, ap, ap₂, arith, inl, inr, ◌⊎◌}
-use Rattle.std.specs.Prelude.{nat_lt, nat_le, ◌&&◌, ◌==◌, Contains}
-use Rattle.std.specs.Option.{option_and_then, option_map_or}
-use Rattle.std.specs.List.{AllByRecursion, flat_map}
-use Rattle.std.proofs.lemmas.Bool.{lt-ltb, cases_lt}
-use Rattle.std.proofs.lemmas.Bool.Decides.{nat_tests}
-use Rattle.std.proofs.lemmas.List.{append-nil}
-use Rattle.std.proofs.lemmas.List.Elements.{filter-append}
+use Rattle.tva_run.proofs.Common.{◌≡◌, ℕ, suc, ◌+◌, ◌<◌, ◌≤◌, List, [], ◌∷◌, ◌++◌, length, map, filter, true, false, Option, Some, None, refl, sym, subst, ◌∙◌, ap, ap₂, arith, inl, inr, ◌⊎◌, nat_lt, nat_le, ◌&&◌, ◌==◌, Contains, option_and_then, option_map_or, AllByRecursion, flat_map, lt-ltb, cases_lt, nat_tests, append-nil, filter-append, Event, LinkLimits, Class, PacketData, decision, Start, WaitUntil, Idle, Config, Row, IsInOrder, cut, Input, Site, limits_out, Entry, Took, Started, input_time, input_source, entry_time, entry_rank, port_logs, starts, start_of, start_after, due, GoesOn, next_by, next_decision, next_on, events, Logs, log_at, site_at, reaches, IsRunTo, event_time, event_node, AreEvents, Window, IsWork, AreWindows, events_in, given}
 use Rattle.std.proofs.lemmas.List.Folds.{flat_map-map}
-use Rattle.tva_base.specs.declared.event.Event.{Event}
-use Rattle.tva_base.specs.declared.limits.LinkLimits.{LinkLimits}
-use Rattle.tva_base.specs.declared.packet.Class.{Class}
-use Rattle.tva_shim.specs.Packets.{PacketData}
 use Rattle.tva_port.specs.Log as port
-use Rattle.tva_port.specs.Decide.{decision}
 use Rattle.tva_port.specs.declared.decision.Decision as decided
-use Rattle.tva_port.specs.declared.decision.Decision.TheVariants.{Start, WaitUntil, Idle}
-use Rattle.tva_plan.specs.declared.config.Config.{Config}
-use Rattle.tva_rows.specs.declared.rows.Row.{Row}
-use Rattle.tva_log.specs.Joins.{IsInOrder, cut}
-use Rattle.tva_log.proofs.Joins.{filter-true, filter-false, filter-all, filter-none, each-filter, each-weaker, cut-early, cut-late, times_from}
-use Rattle.tva_log.proofs.Putting.{each_from_sources, each-both}
-use Rattle.tva_log.specs.declared.kinds.Input.{Input}
-use Rattle.tva_log.specs.Sites.{Site, limits_out}
-use Rattle.tva_log.specs.Entries.{Entry, Took, Started, input_time, input_source, entry_time, entry_rank}
-use Rattle.tva_log.specs.Parts.{port_logs}
-use Rattle.tva_log.specs.NodeLog.{starts, start_of, start_after, due, GoesOn}
-use Rattle.tva_log.specs.Next.{next_by, next_decision, next_on}
-use Rattle.tva_log.specs.Told.{events}
-use Rattle.tva_log.proofs.Ports.{busy_starts_none, free_starts, next_busy, next_free, next_unused}
-use Rattle.tva_log.proofs.Walks.{each_place, IsMade, made_at}
-use Rattle.tva_run.specs.Reaching.{Logs, log_at, site_at, reaches}
-use Rattle.tva_run.specs.Run.{IsRunTo}
-use Rattle.tva_run.specs.Report.{event_time, event_node, AreEvents}
+use Rattle.tva_run.proofs.Joins.{filter-true, filter-false, filter-all, filter-none, each-filter, each-weaker, cut-early, cut-late, times_from}
+use Rattle.tva_run.proofs.Putting.{each_from_sources, each-both}
+use Rattle.tva_run.proofs.Ports.{busy_starts_none, free_starts, next_busy, next_free, next_unused}
+use Rattle.tva_run.proofs.LogWalks.{each_place, IsMade, made_at}
 use Rattle.tva_run.proofs.Sites.{site_number}
-use Rattle.tva_run.specs.Windows.{Window, IsWork, AreWindows, events_in, given}
 
 -- ## where there is a start, its link decides
 

@@ -1,3 +1,4 @@
+mod Common
 pub mod Runs
 pub mod Reports
 pub mod Windows
@@ -10,3 +11,15 @@ pub mod Reaches
 pub mod Queued
 pub mod Walks
 pub mod Names
+pub mod Joins
+pub mod LogWalks
+pub mod Putting
+pub mod Joined
+pub mod Places
+pub mod Logs
+pub mod Steps
+pub mod Ports
+pub mod Links
+pub mod Legal
+pub mod Quiet
+pub mod Boots

@@ -1,65 +1,22 @@
 -- The nodes and links that the events of a run name are the configuration's.
-use Rattle.std.proofs.Common.{◌≡◌, ℕ, ◌+◌, ◌<◌, ◌≤◌, Bool, true, false, cond, List, [], ◌∷◌, length, map, Option, Some, None, All, refl, sym, ap, subst, ◌∙◌, arith}
-use Rattle.std.specs.Prelude.{nat_le, ◌==◌, slice_get}
-use Rattle.std.specs.Option.{option_map, option_map_or, option_and_then}
-use Rattle.std.specs.List.{AllByRecursion, cons_option, find}
-use Rattle.std.proofs.lemmas.Bool.{eqb-true}
-use Rattle.std.proofs.lemmas.List.Elements.{All-from_recursion}
-use Rattle.std.proofs.lemmas.Option.{slice_get_within, same_Some}
-use Rattle.tva_base.specs.declared.addresses.Address.{Address}
-use Rattle.tva_base.specs.declared.event.Event.{Event}
-use Rattle.tva_base.specs.declared.limits.LinkLimits.{LinkLimits}
-use Rattle.tva_base.specs.declared.packet.Class.{Class}
-use Rattle.tva_base.specs.declared.packet.Outcome.TheVariants.{Queued}
+use Rattle.tva_run.proofs.Common.{◌≡◌, ℕ, ◌+◌, ◌<◌, ◌≤◌, Bool, true, false, cond, List, [], ◌∷◌, length, map, Option, Some, None, All, refl, sym, ap, subst, ◌∙◌, arith, nat_le, ◌==◌, slice_get, option_map, option_map_or, option_and_then, AllByRecursion, cons_option, find, eqb-true, All-from_recursion, slice_get_within, same_Some, Address, Event, LinkLimits, Class, Queued, HostPlan, LinkPlan, RouterPlan, in_force, PacketData, class_by_shim, made_packet, upper_size, Charge, Judged, judge, link_to, Handled, arrival, forwarded, goes_on, handle, offered, outgoing_link, outcome_of, sent, stopped, way_to, charges_at, Made, history_of, receipt_of, reply_of, stray, before_reply, answer_to_claim, brought_by, claim_in, Files, answered, first_segment, segment_due, Config, NodePlan, picked, IsConfig, Row, HasEvent, HasHappened, HasLink, HasNode, HasOutcome, HasReply, HasSource, Input, FromTrace, Arrival, Site, site_of, link_out, limits_out, IsPlanned, Content, Entry, Took, Started, charges, port_logs, calls, files, arrived, content, content_by, goes_out, hosted, made_for, next_id, packet_of_row, routed, sent_out, sent_with, due, start_after, content_told, events, reply_told, Logs, log_at, links_out, link_from, site_at, IsRunTo, AreEvents, AreEventsTo, event_node, event_time}
 use Rattle.tva_base.specs.declared.packet.PacketId.{PacketId}
 use Rattle.tva_base.specs.declared.packet.Upper.{Upper}
 use Rattle.tva_base.specs.declared.packet.Upper.TheVariants as upper
-use Rattle.tva_base.specs.declared.plan.HostPlan.{HostPlan}
-use Rattle.tva_base.specs.declared.plan.LinkPlan.{LinkPlan}
-use Rattle.tva_base.specs.declared.plan.RouterPlan.{RouterPlan}
-use Rattle.tva_base.specs.Changes.{in_force}
 use Rattle.tva_shim.specs.declared.kinds.ReturnInfo.{ReturnInfo}
-use Rattle.tva_shim.specs.Packets.{PacketData, class_by_shim, made_packet, upper_size}
-use Rattle.tva_flow.specs.Charges.{Charge}
 use Rattle.tva_drr.specs.declared.offered.Offered as offer
 use Rattle.tva_drr.specs.declared.offered.Offered.TheVariants as offers
 use Rattle.tva_port.specs.Log as port
-use Rattle.tva_router.specs.declared.judged.Judged.{Judged}
-use Rattle.tva_router.specs.Judging.{judge}
-use Rattle.tva_router.specs.Routes.{link_to}
 use Rattle.tva_router.specs.Handling as handling
-use Rattle.tva_router.specs.Handling.{Handled, arrival, forwarded, goes_on, handle, offered, outgoing_link, outcome_of, sent, stopped, way_to}
-use Rattle.tva_router.specs.Boots.{charges_at}
-use Rattle.tva_host.specs.declared.made.Made.{Made}
 use Rattle.tva_host.specs.declared.made.Receipt.{Receipt}
-use Rattle.tva_host.specs.Calls.{history_of}
 use Rattle.tva_host.specs.History.{History}
 use Rattle.tva_host.specs.Sending.{intended}
 use Rattle.tva_host.specs.Receiving as receiving
-use Rattle.tva_host.specs.Receiving.{receipt_of, reply_of, stray, before_reply, answer_to_claim, brought_by, claim_in}
-use Rattle.tva_transfer.specs.Files.{Files, answered, first_segment, segment_due}
-use Rattle.tva_plan.specs.declared.config.Config.{Config}
-use Rattle.tva_plan.specs.declared.config.NodePlan.{NodePlan}
 use Rattle.tva_plan.specs.declared.config.NodePlan.TheVariants as plans
-use Rattle.tva_plan.specs.Wiring.{picked}
-use Rattle.tva_plan.specs.Valid.{IsConfig}
-use Rattle.tva_rows.specs.declared.rows.Row.{Row}
 use Rattle.tva_rows.specs.declared.rows.RowWhat.{RowWhat}
 use Rattle.tva_rows.specs.declared.rows.RowWhat.TheVariants.{Send, Inject, File, Tick}
-use Rattle.tva_lines.specs.Lines.{HasEvent, HasHappened, HasLink, HasNode, HasOutcome, HasReply, HasSource}
-use Rattle.tva_log.proofs.Putting.{each_from_sources}
-use Rattle.tva_log.specs.declared.kinds.Input.{Input}
-use Rattle.tva_log.specs.declared.kinds.Input.TheVariants.{FromTrace, Arrival}
-use Rattle.tva_log.specs.Sites.{Site, site_of, link_out, limits_out, IsPlanned}
-use Rattle.tva_log.specs.Entries.{Content, Entry, Took, Started}
-use Rattle.tva_log.specs.Parts.{charges, port_logs, calls, files}
-use Rattle.tva_log.specs.Contents.{arrived, content, content_by, goes_out, hosted, made_for, next_id, packet_of_row, routed, sent_out, sent_with}
-use Rattle.tva_log.specs.NodeLog.{due, start_after}
-use Rattle.tva_log.specs.Told.{content_told, events, reply_told}
-use Rattle.tva_log.proofs.Walks.{IsMade}
-use Rattle.tva_run.specs.Reaching.{Logs, log_at, links_out, link_from, site_at}
-use Rattle.tva_run.specs.Run.{IsRunTo}
-use Rattle.tva_run.specs.Report.{AreEvents, AreEventsTo, event_node, event_time}
+use Rattle.tva_run.proofs.Putting.{each_from_sources}
+use Rattle.tva_run.proofs.LogWalks.{IsMade}
 use Rattle.tva_run.proofs.Walks.{IsReplyGood, Leaves, LeavesAt, starts_good, holds}
 use Rattle.tva_run.proofs.Sites.{site_is}
 

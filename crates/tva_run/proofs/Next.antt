@@ -1,31 +1,9 @@
 -- The next window of a run starts where, over the run so far, there is something to do next.
-use Rattle.std.proofs.Common.{◌≡◌, ℕ, zero, suc, ◌+◌, ◌<◌, ◌≤◌, List, [], ◌∷◌, map, filter, Bool, true, Option, Some, None, All, refl, sym, subst, ◌∙◌, ap, arith, inl, inr, ◌⊎◌}
-use Rattle.std.specs.Prelude.{nat_lt, ◌==◌, Contains, min}
-use Rattle.std.specs.Option.{option_map, option_and_then}
-use Rattle.std.specs.List.{find}
-use Rattle.std.proofs.lemmas.Bool.{lt-ltb, cases_Bool, cases_lt, cond-true, cond-false}
-use Rattle.std.proofs.lemmas.List.Elements.{All-head, All-tail}
-use Rattle.tva_base.specs.declared.limits.LinkLimits.{LinkLimits}
-use Rattle.tva_base.specs.declared.plan.LinkPlan.{LinkPlan}
-use Rattle.tva_base.specs.Plan.{AreLinkLimits}
-use Rattle.tva_plan.specs.declared.config.Config.{Config}
-use Rattle.tva_plan.specs.Valid.{IsConfig}
-use Rattle.tva_rows.specs.declared.rows.Row.{Row}
-use Rattle.tva_log.specs.Joins.{cut}
-use Rattle.tva_log.proofs.Joins.{filter-true, filter-false, cut-cut, in_order-filter}
-use Rattle.tva_log.specs.declared.kinds.Input.{Input}
-use Rattle.tva_log.specs.Sites.{Site, limits_out, IsLinkOut, IsSite}
-use Rattle.tva_log.specs.Entries.{Entry, input_time, input_source, entry_time, entry_rank}
-use Rattle.tva_log.specs.Parts.{port_logs}
-use Rattle.tva_log.specs.NodeLog.{IsNodeLog, due}
-use Rattle.tva_log.specs.Next.{next_decision, next_on, IsQuiet}
-use Rattle.tva_log.specs.Legal.{AreShort}
-use Rattle.tva_log.proofs.Legal.{AreLegal, node_log_legal}
-use Rattle.tva_log.proofs.Ports.{next_again}
-use Rattle.tva_log.proofs.Quiet.{late_on, quiet_decides_none}
-use Rattle.tva_run.specs.Reaching.{Logs, log_at, site_at, reaches}
-use Rattle.tva_run.specs.Run.{IsRunTo, logs_before}
-use Rattle.tva_run.specs.Windows.{IsWork, IsNextWindow, IsAtRest, HasWork, window_length}
+use Rattle.tva_run.proofs.Common.{◌≡◌, ℕ, zero, suc, ◌+◌, ◌<◌, ◌≤◌, List, [], ◌∷◌, map, filter, Bool, true, Option, Some, None, All, refl, sym, subst, ◌∙◌, ap, arith, inl, inr, ◌⊎◌, nat_lt, ◌==◌, Contains, min, option_map, option_and_then, find, lt-ltb, cases_Bool, cases_lt, cond-true, cond-false, All-head, All-tail, LinkLimits, LinkPlan, AreLinkLimits, Config, IsConfig, Row, cut, Input, Site, limits_out, IsLinkOut, IsSite, Entry, input_time, input_source, entry_time, entry_rank, port_logs, IsNodeLog, due, next_decision, next_on, IsQuiet, AreShort, Logs, log_at, site_at, reaches, IsRunTo, logs_before, IsWork, IsNextWindow, IsAtRest, HasWork, window_length}
+use Rattle.tva_run.proofs.Joins.{filter-true, filter-false, cut-cut, in_order-filter}
+use Rattle.tva_run.proofs.Legal.{AreLegal, node_log_legal}
+use Rattle.tva_run.proofs.Ports.{next_again}
+use Rattle.tva_run.proofs.Quiet.{late_on, quiet_decides_none}
 use Rattle.tva_run.proofs.Runs.{are_delayed, reaches_same, source_due, log_at-before, one_run_is, IsRunTo-cut}
 use Rattle.tva_run.proofs.Going.{at_rest, run_rests}
 use Rattle.tva_run.proofs.Sites.{site_is}

@@ -1,13 +1,5 @@
 -- What waits at the port of a link was queued there, and so was what starts.
-use Rattle.std.proofs.Common.{◌≡◌, ℕ, Bool, true, false, cond, List, [], ◌∷◌, drop, Option, Some, None, refl, subst}
-use Rattle.std.specs.Prelude.{nat_le, count_by}
-use Rattle.std.specs.List.{AllByRecursion, fold, filter_map}
-use Rattle.std.proofs.lemmas.List.Elements.{All-drop, All-from_recursion, recursion_from_All}
-use Rattle.std.proofs.lemmas.Option.{same_Some}
-use Rattle.tva_base.specs.declared.limits.LinkLimits.{LinkLimits}
-use Rattle.tva_base.specs.declared.packet.Class.{Class}
-use Rattle.tva_base.specs.declared.packet.Class.TheVariants.{Request, Regular, Legacy}
-use Rattle.tva_shim.specs.Packets.{PacketData, packet_length}
+use Rattle.tva_run.proofs.Common.{◌≡◌, ℕ, Bool, true, false, cond, List, [], ◌∷◌, drop, Option, Some, None, refl, subst, nat_le, count_by, AllByRecursion, fold, filter_map, All-drop, All-from_recursion, recursion_from_All, same_Some, LinkLimits, Class, Request, Regular, Legacy, PacketData, packet_length, Decision, cost, free_after, Waiting, same_class, request_step, regular_step, queued_legacy, is_legacy_start, waiting_after, next_request, covered, start_or, wait_for, credit_after, decision, start_of, start_after}
 use Rattle.tva_drr.specs.Queues.{Fair, fair, first, head}
 use Rattle.tva_drr.specs.Offer.{offer_leaves}
 use Rattle.tva_drr.specs.Take.{take_leaves}
@@ -15,12 +7,7 @@ use Rattle.tva_drr.proofs.Falling.{by_test}
 use Rattle.tva_port.specs.declared.requests.RequestQueues.{RequestQueues}
 use Rattle.tva_port.specs.Levels.{no_requests, request_leaves, request_taken}
 use Rattle.tva_port.proofs.Holding.{Each, each-offered, each-taken, each-first, each-head, EachRequest, request-none, request-offered, request-taken, request-next}
-use Rattle.tva_port.specs.declared.decision.Decision.{Decision}
-use Rattle.tva_port.specs.Requests.{cost}
-use Rattle.tva_port.specs.Log.{Entry, Queued, Started, free_after}
-use Rattle.tva_port.specs.Waiting.{Waiting, same_class, request_step, regular_step, queued_legacy, is_legacy_start, waiting_after, next_request}
-use Rattle.tva_port.specs.Decide.{covered, start_or, wait_for, credit_after, decision}
-use Rattle.tva_log.specs.NodeLog.{start_of, start_after}
+use Rattle.tva_port.specs.Log.{Entry, Queued, Started}
 
 -- for whatever holds of each packet that was queued
 module _ (P : PacketData → Type 0) where

@@ -1,20 +1,7 @@
 -- What reaches a node comes from each source in the order of time.
-use Rattle.std.proofs.Common.{◌≡◌, ℕ, zero, suc, ◌≤◌, List, [], ◌∷◌, Bool, true, false, cond, Option, Some, None, refl, arith, inl, inr}
-use Rattle.std.specs.Prelude.{◌==◌, slice_get}
-use Rattle.std.specs.Option.{option_map_or}
-use Rattle.std.specs.List.{AllByRecursion}
-use Rattle.std.proofs.lemmas.Bool.{cases_Bool}
-use Rattle.tva_base.specs.declared.plan.LinkPlan.{LinkPlan}
-use Rattle.tva_plan.specs.declared.config.Config.{Config}
-use Rattle.tva_plan.specs.Valid.{IsConfig}
-use Rattle.tva_rows.specs.declared.rows.Row.{Row}
+use Rattle.tva_run.proofs.Common.{◌≡◌, ℕ, zero, suc, ◌≤◌, List, [], ◌∷◌, Bool, true, false, cond, Option, Some, None, refl, arith, inl, inr, ◌==◌, slice_get, option_map_or, AllByRecursion, cases_Bool, LinkPlan, Config, IsConfig, Row, NeverFalls, Input, input_time, Logs, log_at, arrivals, arrivals_at, rows_at, reaches, IsRunTo}
 use Rattle.tva_rows.specs.Valid.{NeverFall}
-use Rattle.tva_log.specs.Joins.{NeverFalls}
-use Rattle.tva_log.proofs.Joins.{filter-true, filter-false, each-weaker}
-use Rattle.tva_log.specs.declared.kinds.Input.{Input}
-use Rattle.tva_log.specs.Entries.{input_time}
-use Rattle.tva_run.specs.Reaching.{Logs, log_at, arrivals, arrivals_at, rows_at, reaches}
-use Rattle.tva_run.specs.Run.{IsRunTo}
+use Rattle.tva_run.proofs.Joins.{filter-true, filter-false, each-weaker}
 use Rattle.tva_run.proofs.Rising.{arrivals_of_run}
 
 module _ (node : ℕ) where

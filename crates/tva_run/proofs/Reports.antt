@@ -1,20 +1,7 @@
 -- The events of a run up to an earlier time are the first of those of a run up to a later one.
-use Rattle.std.proofs.Common.{◌≡◌, ℕ, ◌+◌, ◌≤◌, List, [], ◌∷◌, ◌++◌, length, length-append, map, filter, Bool, Option, Some, None, refl, sym, ◌∙◌, ap, inl, inr, arith}
-use Rattle.std.specs.Prelude.{nat_lt, slice_get}
-use Rattle.std.specs.Option.{option_map_or}
-use Rattle.std.proofs.lemmas.Bool.{lt-ltb, cases_Bool, cases_lt}
-use Rattle.tva_base.specs.declared.event.Event.{Event}
-use Rattle.tva_base.specs.declared.plan.LinkPlan.{LinkPlan}
-use Rattle.tva_plan.specs.declared.config.Config.{Config}
-use Rattle.tva_rows.specs.declared.rows.Row.{Row}
-use Rattle.tva_log.specs.Joins.{IsInOrder, cut}
-use Rattle.tva_log.proofs.Joins.{filter-true, filter-false, cut-late, each_later}
-use Rattle.tva_log.proofs.Joined.{one_join, join-cut}
-use Rattle.tva_log.specs.Sites.{Site}
-use Rattle.tva_log.specs.Told.{event_of, events}
-use Rattle.tva_run.specs.Reaching.{Logs, log_at, site_at}
-use Rattle.tva_run.specs.Run.{logs_before}
-use Rattle.tva_run.specs.Report.{event_time, event_node, events_at, AreEvents, AreEventsTo}
+use Rattle.tva_run.proofs.Common.{◌≡◌, ℕ, ◌+◌, ◌≤◌, List, [], ◌∷◌, ◌++◌, length, length-append, map, filter, Bool, Option, Some, None, refl, sym, ◌∙◌, ap, inl, inr, arith, nat_lt, slice_get, option_map_or, lt-ltb, cases_Bool, cases_lt, Event, LinkPlan, Config, Row, IsInOrder, cut, Site, event_of, events, Logs, log_at, site_at, logs_before, event_time, event_node, events_at, AreEvents, AreEventsTo}
+use Rattle.tva_run.proofs.Joins.{filter-true, filter-false, cut-late, each_later}
+use Rattle.tva_run.proofs.Joined.{one_join, join-cut}
 use Rattle.tva_run.proofs.Runs.{one_run_is, log_at-before, IsRunTo-cut}
 
 pub filter-map : {X Y : Type 0} (f : X → Y) (p : Y → Bool) (xs : List X) → filter p (map f xs) ≡ map f (filter (λ x. p (f x)) xs)

@@ -1,41 +1,10 @@
 -- What reaches a node from one source comes in the order of time.
-use Rattle.std.proofs.Common.{◌≡◌, ℕ, ◌+◌, ◌*◌, ◌<◌, ◌≤◌, List, [], ◌∷◌, ◌++◌, length, Bool, true, false, cond, Option, Some, None, refl, sym, subst, ◌∙◌, ap, arith, inl, inr}
-use Rattle.std.specs.Prelude.{◌==◌, slice_get}
-use Rattle.std.specs.Option.{option_map, option_and_then}
-use Rattle.std.specs.List.{AllByRecursion, cons_option}
-use Rattle.std.proofs.lemmas.Bool.{cases_lt, eqb-true, eq-eqb, ne_eqb}
-use Rattle.std.proofs.lemmas.List.{append-nil}
-use Rattle.std.proofs.lemmas.List.Elements.{filter_map-append}
-use Rattle.tva_base.specs.declared.limits.LinkLimits.{LinkLimits}
-use Rattle.tva_base.specs.declared.plan.LinkPlan.{LinkPlan}
-use Rattle.tva_base.specs.declared.packet.Class.{Class}
-use Rattle.tva_base.specs.declared.packet.Outcome.{Outcome}
-use Rattle.tva_base.specs.declared.packet.Outcome.TheVariants.{Queued, Dropped}
-use Rattle.tva_shim.specs.Packets.{PacketData, packet_length}
-use Rattle.tva_shim.specs.Shows.{key_of}
-use Rattle.tva_host.specs.declared.made.Made.{Made}
+use Rattle.tva_run.proofs.Common.{◌≡◌, ℕ, ◌+◌, ◌*◌, ◌<◌, ◌≤◌, List, [], ◌∷◌, ◌++◌, length, Bool, true, false, cond, Option, Some, None, refl, sym, subst, ◌∙◌, ap, arith, inl, inr, ◌==◌, slice_get, option_map, option_and_then, AllByRecursion, cons_option, cases_lt, eqb-true, eq-eqb, ne_eqb, append-nil, filter_map-append, LinkLimits, LinkPlan, Class, Outcome, Queued, Dropped, PacketData, packet_length, key_of, Made, free-queued, free-started, NeverFalls, Input, Arrival, Site, site_of, link_out, limits_out, Content, Entry, Took, Started, input_time, queued_at, reply_at, content_at, port_entry, port_logs, starts, start_after, due, GoesOn, at_time, Config, NodePlan, IsConfig, IsLinkPlan, all_here, Row, slice_get_cases, Logs, log_at, links_out, site_at, arrival_of, arrivals, IsRunTo}
 use Rattle.tva_port.specs.Log as port
-use Rattle.tva_port.proofs.Logs.{free-queued, free-started}
-use Rattle.tva_log.specs.Joins.{NeverFalls}
-use Rattle.tva_log.proofs.Joins.{each-append, each-weaker}
-use Rattle.tva_log.specs.declared.kinds.Input.{Input}
-use Rattle.tva_log.specs.declared.kinds.Input.TheVariants.{Arrival}
-use Rattle.tva_log.specs.Sites.{Site, site_of, link_out, limits_out}
-use Rattle.tva_log.specs.Entries.{Content, Entry, Took, Started, input_time}
-use Rattle.tva_log.specs.Entries as entry
-use Rattle.tva_log.specs.Parts.{queued_at, reply_at, content_at, port_entry, port_logs}
-use Rattle.tva_log.specs.NodeLog.{starts, start_after, due, GoesOn}
-use Rattle.tva_log.specs.Told.{at_time}
-use Rattle.tva_log.proofs.Ports.{busy_starts_none}
-use Rattle.tva_log.proofs.Walks.{by_place, IsMade, AnyInput, any, made_at}
-use Rattle.tva_plan.specs.declared.config.Config.{Config}
-use Rattle.tva_plan.specs.declared.config.NodePlan.{NodePlan}
-use Rattle.tva_plan.specs.Valid.{IsConfig, IsLinkPlan}
-use Rattle.tva_plan.proofs.Wired.{all_here}
-use Rattle.tva_rows.specs.declared.rows.Row.{Row}
-use Rattle.std.proofs.lemmas.Option.{slice_get_cases}
-use Rattle.tva_run.specs.Reaching.{Logs, log_at, links_out, site_at, arrival_of, arrivals}
-use Rattle.tva_run.specs.Run.{IsRunTo}
+use Rattle.tva_run.proofs.Joins.{each-append, each-weaker}
+use Rattle.tva_run.specs.Entries as entry
+use Rattle.tva_run.proofs.Ports.{busy_starts_none}
+use Rattle.tva_run.proofs.LogWalks.{by_place, IsMade, AnyInput, any, made_at}
 use Rattle.tva_run.proofs.Sites.{link_out_is}
 
 -- ## when a link is free

@@ -1,30 +1,8 @@
 -- A network has at most one run up to a time: by induction over that time, since what arrives before the next time was sent
 -- before it. And a run before an earlier time is the run up to that.
-use Rattle.std.proofs.Common.{◌≡◌, ℕ, zero, suc, ◌+◌, ◌*◌, ◌≤◌, List, [], ◌∷◌, length, Bool, true, false, cond, Option, Some, None, refl, sym, subst, ◌∙◌, ap, arith, inl, inr}
-use Rattle.std.specs.Prelude.{nat_lt, ◌==◌, slice_get}
-use Rattle.std.specs.Option.{option_map, option_map_or}
-use Rattle.std.specs.List.{cons_option}
-use Rattle.std.proofs.lemmas.Bool.{lt-ltb, le-ltb, cases_lt}
-use Rattle.std.proofs.lemmas.List.{ext_get_or, get_or_past, length-map}
-use Rattle.std.proofs.lemmas.Option.{slice_get_cases, same_Some}
-use Rattle.tva_base.specs.declared.plan.LinkPlan.{LinkPlan}
-use Rattle.tva_shim.specs.Packets.{PacketData, packet_length}
-use Rattle.tva_plan.specs.declared.config.Config.{Config}
-use Rattle.tva_plan.specs.declared.config.NodePlan.{NodePlan}
-use Rattle.tva_plan.specs.Valid.{IsConfig, IsLinkPlan}
-use Rattle.tva_plan.proofs.Wired.{all_here}
-use Rattle.tva_rows.specs.declared.rows.Row.{Row}
-use Rattle.tva_log.specs.Joins.{from_source, IsJoin, cut}
-use Rattle.tva_log.proofs.Joins.{filter-true, filter-false, filter_swap, in_order-filter, join_unique, cut-zero, cut-cut}
-use Rattle.tva_log.specs.declared.kinds.Input.{Input}
-use Rattle.tva_log.specs.declared.kinds.Input.TheVariants.{Arrival}
-use Rattle.tva_log.specs.Sites.{Site, site_of}
-use Rattle.tva_log.specs.Entries.{Entry, Took, Started, input_time, input_source, entry_time, entry_rank}
-use Rattle.tva_log.specs.Told.{at_time}
-use Rattle.tva_log.specs.NodeLog.{due}
-use Rattle.tva_log.proofs.Logs.{IsNodeLog-cut, IsNodeLog-same, IsNodeLog-unique, cut_same}
-use Rattle.tva_run.specs.Reaching.{Logs, log_at, links_out, site_at, arrival_of, arrivals, arrivals_at, reaches}
-use Rattle.tva_run.specs.Run.{IsRunTo, logs_before}
+use Rattle.tva_run.proofs.Common.{◌≡◌, ℕ, zero, suc, ◌+◌, ◌*◌, ◌≤◌, List, [], ◌∷◌, length, Bool, true, false, cond, Option, Some, None, refl, sym, subst, ◌∙◌, ap, arith, inl, inr, nat_lt, ◌==◌, slice_get, option_map, option_map_or, cons_option, lt-ltb, le-ltb, cases_lt, ext_get_or, get_or_past, length-map, slice_get_cases, same_Some, LinkPlan, PacketData, packet_length, Config, NodePlan, IsConfig, IsLinkPlan, all_here, Row, from_source, IsJoin, cut, Input, Arrival, Site, site_of, Entry, Took, Started, input_time, input_source, entry_time, entry_rank, at_time, due, Logs, log_at, links_out, site_at, arrival_of, arrivals, arrivals_at, reaches, IsRunTo, logs_before}
+use Rattle.tva_run.proofs.Joins.{filter-true, filter-false, filter_swap, in_order-filter, join_unique, cut-zero, cut-cut}
+use Rattle.tva_run.proofs.Logs.{IsNodeLog-cut, IsNodeLog-same, IsNodeLog-unique, cut_same}
 
 -- ## what arrives
 

@@ -1,30 +1,9 @@
 -- The nodes of a valid configuration are valid.
-use Rattle.std.proofs.Common.{◌≡◌, ℕ, zero, suc, ◌+◌, ◌*◌, ◌<◌, ◌≤◌, List, [], ◌∷◌, length, map, filter, Bool, true, false, cond, Option, Some, None, refl, sym, subst, ◌∙◌, ap, ap₂, arith}
-use Rattle.std.specs.Prelude.{◌==◌, slice_get}
-use Rattle.std.specs.Option.{option_map}
-use Rattle.std.specs.List.{AllByRecursion, cons_option, find}
-use Rattle.std.proofs.lemmas.Bool.{eqb-true, eq-eqb, ne_eqb}
-use Rattle.std.proofs.lemmas.List.Elements.{All-from_recursion, recursion_from_All}
-use Rattle.std.proofs.lemmas.Option.{slice_get_within, same_Some}
-use Rattle.tva_base.specs.declared.limits.LinkLimits.{LinkLimits}
-use Rattle.tva_base.specs.declared.plan.LinkPlan.{LinkPlan}
-use Rattle.tva_base.specs.Plan.{links_of}
-use Rattle.tva_plan.specs.declared.config.Config.{Config}
-use Rattle.tva_plan.specs.declared.config.NodePlan.{NodePlan}
+use Rattle.tva_run.proofs.Common.{◌≡◌, ℕ, zero, suc, ◌+◌, ◌*◌, ◌<◌, ◌≤◌, List, [], ◌∷◌, length, map, filter, Bool, true, false, cond, Option, Some, None, refl, sym, subst, ◌∙◌, ap, ap₂, arith, ◌==◌, slice_get, option_map, AllByRecursion, cons_option, find, eqb-true, eq-eqb, ne_eqb, All-from_recursion, recursion_from_All, slice_get_within, same_Some, LinkLimits, LinkPlan, links_of, Config, NodePlan, picked, number_from, links_from, limited_from, outgoing_of, IsConfig, IsLinkPlan, IsWired, AreWired, router_at, host_at, Class, PacketData, packet_length, Input, Arrival, Entry, Took, Started, at_time, arrives, sendings, Site, site_of, link_out, AreRising, IsLinkOut, IsPlanned, IsSite, link_from, links_out, site_at, arrivals}
 use Rattle.tva_plan.specs.declared.config.NodePlan.TheVariants as plans
-use Rattle.tva_plan.specs.Wiring.{picked, number_from, links_from, limited_from, outgoing_of}
-use Rattle.tva_plan.specs.Valid.{IsConfig, IsLinkPlan, IsWired, AreWired}
-use Rattle.tva_plan.proofs.Wired.{router_at, host_at}
-use Rattle.tva_log.proofs.Joins.{each-weaker}
-use Rattle.tva_base.specs.declared.packet.Class.{Class}
-use Rattle.tva_shim.specs.Packets.{PacketData, packet_length}
-use Rattle.tva_log.specs.declared.kinds.Input.{Input}
-use Rattle.tva_log.specs.declared.kinds.Input.TheVariants.{Arrival}
-use Rattle.tva_log.specs.declared.kinds.Sending.{Sending}
-use Rattle.tva_log.specs.Entries.{Entry, Took, Started}
-use Rattle.tva_log.specs.Told.{at_time, arrives, sendings}
-use Rattle.tva_log.specs.Sites.{Site, site_of, link_out, AreRising, IsLinkOut, IsPlanned, IsSite}
-use Rattle.tva_run.specs.Reaching.{link_from, links_out, site_at, arrivals, arrival}
+use Rattle.tva_run.proofs.Joins.{each-weaker}
+use Rattle.tva_run.specs.declared.kinds.Sending.{Sending}
+use Rattle.tva_run.specs.Reaching.{arrival}
 
 module _ (n : ℕ) where
   -- ## the links out are the configuration's

@@ -1,37 +1,12 @@
 -- What holds of each packet that is made or handed on holds of what starts. And what holds of what a node makes of inputs, where
 -- it held of these, holds of each entry of a run: by induction over time, since what arrives before the next time was sent
 -- before it.
-use Rattle.std.proofs.Common.{◌≡◌, ℕ, zero, suc, ◌+◌, ◌*◌, ◌≤◌, Bool, true, false, cond, List, [], ◌∷◌, ◌++◌, map, filter, Option, Some, None, refl, sym, ap, subst, ◌∙◌, arith, inl, inr, append_assoc}
-use Rattle.std.specs.Prelude.{nat_lt, ◌==◌, slice_get}
-use Rattle.std.specs.Option.{option_map_or, option_and_then}
-use Rattle.std.specs.List.{AllByRecursion, cons_option}
-use Rattle.std.proofs.lemmas.Bool.{cases_lt, lt-ltb}
-use Rattle.tva_base.specs.declared.limits.LinkLimits.{LinkLimits}
-use Rattle.tva_base.specs.declared.packet.Class.{Class}
-use Rattle.tva_base.specs.declared.packet.Outcome.{Outcome}
-use Rattle.tva_base.specs.declared.packet.Outcome.TheVariants.{Queued, Dropped}
-use Rattle.tva_base.specs.declared.plan.LinkPlan.{LinkPlan}
-use Rattle.tva_shim.specs.Packets.{PacketData, packet_length, class_by_shim}
-use Rattle.tva_shim.specs.Shows.{key_of}
+use Rattle.tva_run.proofs.Common.{◌≡◌, ℕ, zero, suc, ◌+◌, ◌*◌, ◌≤◌, Bool, true, false, cond, List, [], ◌∷◌, ◌++◌, map, filter, Option, Some, None, refl, sym, ap, subst, ◌∙◌, arith, inl, inr, append_assoc, nat_lt, ◌==◌, slice_get, option_map_or, option_and_then, AllByRecursion, cons_option, cases_lt, lt-ltb, LinkLimits, Class, Outcome, Queued, Dropped, LinkPlan, PacketData, packet_length, class_by_shim, key_of, Made, Config, IsConfig, Row, IsInOrder, cut, Input, FromTrace, Arrival, Site, limits_out, Content, Arrived, Sent, Ticked, Received, Entry, Took, Started, input_time, input_source, entry_time, entry_rank, queued_at, reply_at, content_at, port_entry, port_logs, due, starts, start_after, at_time, Logs, log_at, site_at, rows_at, arrivals, arrivals_at, reaches, IsRunTo}
 use Rattle.tva_port.specs.Log as port
-use Rattle.tva_host.specs.declared.made.Made.{Made}
-use Rattle.tva_plan.specs.declared.config.Config.{Config}
-use Rattle.tva_plan.specs.Valid.{IsConfig}
-use Rattle.tva_rows.specs.declared.rows.Row.{Row}
-use Rattle.tva_log.specs.Joins.{IsInOrder, cut}
-use Rattle.tva_log.proofs.Joins.{each-filter, each_later, filter-true, cut-late, cut-zero}
-use Rattle.tva_log.proofs.Putting.{each_from_sources}
-use Rattle.tva_log.proofs.Walks.{each_place, IsMade, made_at}
-use Rattle.tva_log.specs.declared.kinds.Input.{Input}
-use Rattle.tva_log.specs.declared.kinds.Input.TheVariants.{FromTrace, Arrival}
-use Rattle.tva_log.specs.Sites.{Site, limits_out}
-use Rattle.tva_log.specs.Entries.{Content, Arrived, Sent, Ticked, Received, Entry, Took, Started, input_time, input_source, entry_time, entry_rank}
-use Rattle.tva_log.specs.Parts.{queued_at, reply_at, content_at, port_entry, port_logs}
-use Rattle.tva_log.specs.NodeLog.{due, starts, start_after}
-use Rattle.tva_log.specs.Told.{at_time}
-use Rattle.tva_log.proofs.Logs.{IsNodeLog-cut, cut_same}
-use Rattle.tva_run.specs.Reaching.{Logs, log_at, site_at, rows_at, arrivals, arrivals_at, reaches}
-use Rattle.tva_run.specs.Run.{IsRunTo}
+use Rattle.tva_run.proofs.Joins.{each-filter, each_later, filter-true, cut-late, cut-zero}
+use Rattle.tva_run.proofs.Putting.{each_from_sources}
+use Rattle.tva_run.proofs.LogWalks.{each_place, IsMade, made_at}
+use Rattle.tva_run.proofs.Logs.{IsNodeLog-cut, cut_same}
 use Rattle.tva_run.proofs.Queued.{Brings, start_good}
 use Rattle.tva_run.proofs.Runs.{at_nodes, are_delayed, arrivals-cut, source_due}
 

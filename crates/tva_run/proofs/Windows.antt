@@ -1,11 +1,5 @@
 -- A run has one list of windows.
-use Rattle.std.proofs.Common.{◌≡◌, ℕ, ◌+◌, List, [], ◌∷◌, refl, sym, ◌∙◌, ap, ap₂, arith, inl, inr}
-use Rattle.std.specs.Prelude.{min}
-use Rattle.std.proofs.lemmas.Bool.{cases_lt}
-use Rattle.tva_plan.specs.declared.config.Config.{Config}
-use Rattle.tva_rows.specs.declared.rows.Row.{Row}
-use Rattle.tva_run.specs.Reaching.{Logs}
-use Rattle.tva_run.specs.Windows.{Window, IsNextWindow, AreWindows, window_length}
+use Rattle.tva_run.proofs.Common.{◌≡◌, ℕ, ◌+◌, List, [], ◌∷◌, refl, sym, ◌∙◌, ap, ap₂, arith, inl, inr, min, cases_lt, Config, Row, Logs, Window, IsNextWindow, AreWindows, window_length}
 
 module _ (config : Config) (rows : List Row) (logs : Logs) where
   starts_same : (from : ℕ) (a b : Window) → IsNextWindow config rows logs from a → IsNextWindow config rows logs from b → a.0 ≡ b.0

@@ -3,3 +3,13 @@ pub mod Run
 pub mod Report
 pub mod Windows
 pub mod Shown
+pub mod Joins
+pub mod Sites
+pub mod Entries
+pub mod Parts
+pub mod Contents
+pub mod NodeLog
+pub mod Told
+pub mod Next
+pub mod Legal
+pub mod AtTime

@@ -8,12 +8,12 @@ use Rattle.tva_shim.specs.Packets.{packet_length}
 use Rattle.tva_plan.specs.declared.config.Config.{Config}
 use Rattle.tva_plan.specs.Wiring.{picked}
 use Rattle.tva_rows.specs.declared.rows.Row.{Row}
-use Rattle.tva_log.specs.declared.kinds.Input.{Input}
-use Rattle.tva_log.specs.declared.kinds.Input.TheVariants.{FromTrace, Arrival}
-use Rattle.tva_log.specs.declared.kinds.Sending.{Sending}
-use Rattle.tva_log.specs.Sites.{Site, site_of}
-use Rattle.tva_log.specs.Entries.{Entry, Took, Started}
-use Rattle.tva_log.specs.Told.{at_time}
+use Rattle.tva_run.specs.declared.kinds.Input.{Input}
+use Rattle.tva_run.specs.declared.kinds.Input.TheVariants.{FromTrace, Arrival}
+use Rattle.tva_run.specs.declared.kinds.Sending.{Sending}
+use Rattle.tva_run.specs.Sites.{Site, site_of}
+use Rattle.tva_run.specs.Entries.{Entry, Took, Started}
+use Rattle.tva_run.specs.Told.{at_time}
 
 -- ## nodes
 

@@ -13,8 +13,8 @@ use Rattle.tva_router.specs.Marks.{calls_for_mark}
 use Rattle.tva_plan.specs.declared.config.Config.{Config}
 use Rattle.tva_rows.specs.declared.rows.Row.{Row}
 use Rattle.tva_lines.specs.Lines.{line_of, summary_of}
-use Rattle.tva_log.specs.Joins.{IsJoin}
-use Rattle.tva_log.specs.Told.{events}
+use Rattle.tva_run.specs.Joins.{IsJoin}
+use Rattle.tva_run.specs.Told.{events}
 use Rattle.tva_run.specs.Reaching.{Logs, log_at, site_at}
 use Rattle.tva_run.specs.Run.{IsRunTo}
 

@@ -2,11 +2,11 @@
 use Rattle.std.specs.Prelude.{◌≡◌, ℕ, ◌+◌, ◌≤◌, List, length, map, Some}
 use Rattle.tva_plan.specs.declared.config.Config.{Config}
 use Rattle.tva_rows.specs.declared.rows.Row.{Row}
-use Rattle.tva_log.specs.Joins.{IsJoin, cut}
-use Rattle.tva_log.specs.declared.kinds.Input.{Input}
-use Rattle.tva_log.specs.Sites.{Site}
-use Rattle.tva_log.specs.Entries.{Entry, input_time, input_source, entry_time}
-use Rattle.tva_log.specs.NodeLog.{IsNodeLog, due}
+use Rattle.tva_run.specs.Joins.{IsJoin, cut}
+use Rattle.tva_run.specs.declared.kinds.Input.{Input}
+use Rattle.tva_run.specs.Sites.{Site}
+use Rattle.tva_run.specs.Entries.{Entry, input_time, input_source, entry_time}
+use Rattle.tva_run.specs.NodeLog.{IsNodeLog, due}
 use Rattle.tva_run.specs.Reaching.{Logs, log_at, site_at, reaches}
 
 -- a node has this log up to a time, where so much was sent: it is the node's log over inputs that are just what reaches

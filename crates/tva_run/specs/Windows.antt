@@ -5,12 +5,12 @@ use Rattle.tva_base.specs.declared.event.Event.{Event}
 use Rattle.tva_base.specs.declared.plan.LinkPlan.{LinkPlan}
 use Rattle.tva_plan.specs.declared.config.Config.{Config}
 use Rattle.tva_rows.specs.declared.rows.Row.{Row}
-use Rattle.tva_log.specs.Joins.{IsJoin, cut}
-use Rattle.tva_log.specs.Sites.{Site}
-use Rattle.tva_log.specs.declared.kinds.Input.{Input}
-use Rattle.tva_log.specs.Entries.{Entry, input_time, input_source, entry_time}
-use Rattle.tva_log.specs.NodeLog.{due}
-use Rattle.tva_log.specs.Next.{IsQuiet, IsWorkAt}
+use Rattle.tva_run.specs.Joins.{IsJoin, cut}
+use Rattle.tva_run.specs.Sites.{Site}
+use Rattle.tva_run.specs.declared.kinds.Input.{Input}
+use Rattle.tva_run.specs.Entries.{Entry, input_time, input_source, entry_time}
+use Rattle.tva_run.specs.NodeLog.{due}
+use Rattle.tva_run.specs.Next.{IsQuiet, IsWorkAt}
 use Rattle.tva_run.specs.Reaching.{Logs, log_at, site_at, reaches}
 use Rattle.tva_run.specs.Report.{event_time}
 use Rattle.tva_run.specs.Run.{IsRunTo}

@@ -1,6 +1,5 @@
 -- How far a packet moves the life of a grant.
-use Rattle.std.proofs.Common.{ℕ, ◌+◌, ◌*◌, ◌^◌, ◌<◌, ◌≤◌, max, arith}
-use Rattle.std.proofs.Math.Nat.{mul-le-mul_left}
+use Rattle.tva_sender.proofs.Common.{ℕ, ◌+◌, ◌*◌, ◌^◌, ◌<◌, ◌≤◌, max, arith, mul-le-mul_left}
 
 pub le-mul_some : (a b : ℕ) → 1 ≤ b → a ≤ a * (1024 * b)
 le-mul_some a b some =

@@ -1,10 +1,5 @@
 -- The tree with one address more.
-use Rattle.std.proofs.Common.{◌≡◌, ℕ, zero, suc, ◌+◌, ◌<◌, Bool, true, false, cond, eqb, List, [], ◌∷◌, ◌++◌, length, set, Option, Some, None, refl, sym, ap, ◌∙◌, subst, inl, inr, ◌⊎◌, arith}
-use Rattle.std.specs.Option.{option_and_then}
-use Rattle.std.proofs.lemmas.Bool.{cases_lt, cases_eq, ne_eqb}
-use Rattle.std.proofs.lemmas.List.{get_or-set_same, get_or-set_other, get_or_append_left, get_or_push, get_or-map, length-set, length_push, map-append, map-set, set-get_or}
-use Rattle.tva_sender.specs.declared.places.Node.{Node}
-use Rattle.tva_sender.specs.Tree.{addresses_of, leaf, node, branch, with_branch, is_high, step, spot, IsTree, IsMissing}
+use Rattle.tva_sender.proofs.Common.{◌≡◌, ℕ, zero, suc, ◌+◌, ◌<◌, Bool, true, false, cond, eqb, List, [], ◌∷◌, ◌++◌, length, set, Option, Some, None, refl, sym, ap, ◌∙◌, subst, inl, inr, ◌⊎◌, arith, option_and_then, cases_lt, cases_eq, ne_eqb, get_or-set_same, get_or-set_other, get_or_append_left, get_or_push, get_or-map, length-set, length_push, map-append, map-set, set-get_or, Node, addresses_of, leaf, node, branch, with_branch, is_high, step, spot, IsTree, IsMissing}
 use Rattle.tva_sender.proofs.Tree.{next, within}
 
 -- a branch that leads somewhere else

@@ -1,20 +1,9 @@
 -- What is kept of a peer after one more contact.
-use Rattle.std.proofs.Common.{◌≡◌, ℕ, ◌+◌, Bool, true, false, not, ◌||◌, ◌&&◌, cond, eqb, ltb, eq-eqb, suc, zero, List, [], ◌∷◌, ◌++◌, Option, Some, None, refl, ap, sym, ◌∙◌, arith, append-nil, add-zero, sum_by}
+use Rattle.tva_sender.proofs.Common.{◌≡◌, ℕ, ◌+◌, Bool, true, false, not, ◌||◌, ◌&&◌, cond, eqb, ltb, eq-eqb, suc, zero, List, [], ◌∷◌, ◌++◌, Option, Some, None, refl, ap, sym, ◌∙◌, arith, append-nil, add-zero, sum_by, option_or, option_map, option_and_then, sum_by_push, nat_tests, Rights, Shape, Grant, Peer, Contact, Prepared, Taken, Notice, is_taking, is_notice, asks, Ask, last_ask, Taking, last_taking, notices, unless_given_up, Use, uses_in, uses, since_notice, life_of, first_nonce, time, grant_of, length_of, list_length, nonce_length, charged, used_by, grant_used_by, prepared, answered, noticed, first_asked, Keeps, IsStrange}
 use Rattle.std.specs.List.{list_any}
-use Rattle.std.specs.Option.{option_or, option_map, option_and_then}
 use Rattle.std.proofs.lemmas.List.Folds.{list_any-append}
-use Rattle.std.proofs.lemmas.List.Sums.{sum_by_push}
-use Rattle.std.proofs.lemmas.Bool.Decides.{nat_tests}
-use Rattle.tva_base.specs.declared.packet.Rights.{Rights}
 use Rattle.tva_base.specs.declared.packet.Time.{Time}
-use Rattle.tva_sender.specs.declared.shape.Shape.{Shape}
 use Rattle.tva_sender.specs.declared.shape.Shape.TheVariants as shape
-use Rattle.tva_sender.specs.declared.grant.Grant.{Grant}
-use Rattle.tva_sender.specs.declared.peer.Peer.{Peer}
-use Rattle.tva_sender.specs.Contacts.{Contact, Prepared, Taken, Notice, is_taking, is_notice, asks, Ask, last_ask, Taking, last_taking, notices, unless_given_up, Use, uses_in, uses, since_notice, life_of, first_nonce, time, grant_of}
-use Rattle.tva_sender.specs.Shapes.{length_of, list_length, nonce_length}
-use Rattle.tva_sender.specs.Steps.{charged, used_by, grant_used_by, prepared, answered, noticed, first_asked}
-use Rattle.tva_sender.specs.Book.{Keeps, IsStrange}
 use Rattle.tva_sender.proofs.Pushes.{time_of, is_open, ask_more, last_ask-push, taking_more, last_taking-push, notices-push, uses-push, since_notice-push, since_notice-first, life_of-push, first_nonce-push}
 
 -- a contact that is no taking leaves an ask as it was

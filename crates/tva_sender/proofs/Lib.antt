@@ -1,3 +1,4 @@
+mod Common
 pub mod Bounds
 pub mod Pushes
 pub mod Keeping

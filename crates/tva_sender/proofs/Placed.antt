@@ -1,13 +1,6 @@
 -- What is looked up in a list of peers by their places.
-use Rattle.std.proofs.Common.{◌≡◌, ℕ, zero, suc, ◌-◌, ◌<◌, ◌≤◌, Bool, true, false, ◌||◌, cond, eqb, List, [], ◌∷◌, ◌++◌, length, map, get_or, set, Option, Some, None, refl, sym, ap, subst, ◌∙◌, inl, inr, arith}
-use Rattle.std.specs.Prelude.{nat_eq, is_some}
-use Rattle.std.specs.Map.{lookup}
-use Rattle.std.proofs.lemmas.Bool.{cases_eq, eqb-true, eqb-false, eq-eqb, ne_eqb}
-use Rattle.std.proofs.lemmas.List.{length-map, length-set, map-append}
-use Rattle.tva_sender.specs.declared.peer.Peer.{Peer}
-use Rattle.tva_sender.specs.Near.{AreNear}
-use Rattle.tva_sender.specs.Places.{Known, ArePlaced, IsNowhere, IsFirstAt}
-use Rattle.tva_sender.specs.Steps.{IsNearPeer}
+use Rattle.tva_sender.proofs.Common.{◌≡◌, ℕ, zero, suc, ◌-◌, ◌<◌, ◌≤◌, Bool, true, false, ◌||◌, cond, eqb, List, [], ◌∷◌, ◌++◌, length, map, get_or, set, Option, Some, None, refl, sym, ap, subst, ◌∙◌, inl, inr, arith, nat_eq, is_some, lookup, cases_eq, eqb-true, eqb-false, ne_eqb, length-map, length-set, map-append, Peer, AreNear, Known, ArePlaced, IsNowhere, IsFirstAt, IsNearPeer}
+use Rattle.std.proofs.lemmas.Bool.{eq-eqb}
 
 abbrev pub addresses : List (ℕ × Peer) → List ℕ
 addresses ps = map (λ (p : ℕ × Peer). p.0) ps

@@ -1,13 +1,6 @@
 -- What one more contact leaves of a list that a sender can have.
-use Rattle.std.proofs.Common.{◌≡◌, ℕ, ◌≤◌, List, [], ◌∷◌, ◌++◌, Some, refl, sym, subst, arith, append_assoc, append-nil}
-use Rattle.std.proofs.lemmas.List.Elements.{All-push, All-weaker}
-use Rattle.tva_sender.specs.declared.shape.Shape.{Shape}
+use Rattle.tva_sender.proofs.Common.{◌≡◌, ℕ, ◌≤◌, List, [], ◌∷◌, ◌++◌, Some, refl, sym, subst, arith, append_assoc, append-nil, All-push, All-weaker, Shape, Peer, Contact, Prepared, Taken, Notice, shape_of, length_of, by_grant, may_ask, IsUpTo, NoneLater, IsNext, AreNext, Keeps, IsStrange}
 use Rattle.tva_sender.specs.declared.shape.Shape.TheVariants as shape
-use Rattle.tva_sender.specs.declared.peer.Peer.{Peer}
-use Rattle.tva_sender.specs.Contacts.{Contact, Prepared, Taken, Notice}
-use Rattle.tva_sender.specs.Shapes.{shape_of, length_of, by_grant, may_ask}
-use Rattle.tva_sender.specs.Played.{IsUpTo, NoneLater, IsNext, AreNext}
-use Rattle.tva_sender.specs.Book.{Keeps, IsStrange}
 
 up_to-later : (last now : ℕ) → last ≤ now → (c : Contact) → IsUpTo last c → IsUpTo now c
 up_to-later last now l (Prepared time s length) q = omega (arith, l, q)

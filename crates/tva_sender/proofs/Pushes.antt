@@ -1,10 +1,6 @@
 -- What one more contact changes in what is read off a list of contacts.
-use Rattle.std.proofs.Common.{◌≡◌, ℕ, ◌+◌, Bool, true, false, not, cond, List, [], ◌∷◌, ◌++◌, Option, Some, None, refl, ap, sym, max, arith, append_assoc, append-nil}
-use Rattle.std.specs.Option.{option_or, option_map, option_map_or, unwrap_or}
-use Rattle.std.proofs.lemmas.List.Sums.{sum_by-cons, sum_by_push}
-use Rattle.tva_base.specs.declared.packet.Rights.{Rights}
+use Rattle.tva_sender.proofs.Common.{◌≡◌, ℕ, ◌+◌, Bool, true, false, not, cond, List, [], ◌∷◌, ◌++◌, Option, Some, None, refl, ap, sym, max, arith, append_assoc, append-nil, option_or, option_map, option_map_or, unwrap_or, sum_by-cons, sum_by_push, Rights, Contact, Prepared, Taken, Notice, is_notice, asks, Ask, ask_in, last_ask, Taking, taking_in, last_taking, notices, Use, uses_in, uses, after_notice, since_notice, life_of, first_nonce, is_answered}
 use Rattle.tva_base.specs.Credit.{credit_of}
-use Rattle.tva_sender.specs.Contacts.{Contact, Prepared, Taken, Notice, is_notice, asks, Ask, ask_in, last_ask, Taking, taking_in, last_taking, notices, Use, uses_in, uses, after_notice, since_notice, life_of, first_nonce, is_answered}
 
 -- the last of two, and what a function makes of it
 or_none : {X : Type 0} (x : Option X) → option_or None x ≡ option_or x None

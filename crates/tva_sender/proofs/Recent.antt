@@ -1,8 +1,6 @@
 -- What is remembered of places stays right where an address is added.
-use Rattle.std.proofs.Common.{ℕ, zero, suc, List, [], ◌∷◌, ◌++◌, Option, Some, None}
+use Rattle.tva_sender.proofs.Common.{ℕ, zero, suc, List, [], ◌∷◌, ◌++◌, Option, Some, None, IsFirstAt, IsRecent}
 use Rattle.tva_sender.specs.declared.places.Hint.{Hint}
-use Rattle.tva_sender.specs.Places.{IsFirstAt}
-use Rattle.tva_sender.specs.Tree.{IsRecent}
 
 first-more : (a : ℕ) (xs ys : List ℕ) (i : ℕ) → IsFirstAt a xs i → IsFirstAt a (xs ++ ys) i
 first-more a [] ys i f = absurd f

@@ -1,15 +1,6 @@
 -- A shim can carry each shape, where it could carry what happened before.
-use Rattle.std.proofs.Common.{ℕ, Bool, true, false, ◌&&◌, cond, eqb, ltb, List, [], ◌∷◌, ◌++◌, Option, Some, None}
-use Rattle.std.specs.Option.{option_or, option_map, option_and_then, unwrap_or, IfSome}
-use Rattle.tva_base.specs.declared.addresses.Address.{Address}
-use Rattle.tva_base.specs.Versions.{AreRights}
-use Rattle.tva_sender.specs.declared.shape.Shape.{Shape}
+use Rattle.tva_sender.proofs.Common.{ℕ, Bool, true, false, ◌&&◌, cond, eqb, ltb, List, [], ◌∷◌, ◌++◌, Option, Some, None, option_or, option_map, option_and_then, unwrap_or, IfSome, Address, AreRights, Shape, Grant, Contact, Prepared, Taken, Notice, Taking, taking_in, last_taking, notices, unless_given_up, uses, first_nonce, grant_of, grant_held, nonce_of, list_length, nonce_length, renews, takes_nonce, fits, held, without_grant, under_grant, by_grant, IsNonce, IsShowableHeld, IsShowable, IsShowableContact, AreShowable, of_peer}
 use Rattle.tva_sender.specs.declared.shape.Shape.TheVariants as shape
-use Rattle.tva_sender.specs.declared.grant.Grant.{Grant}
-use Rattle.tva_sender.specs.Contacts.{Contact, Prepared, Taken, Notice, Taking, taking_in, last_taking, notices, unless_given_up, uses, first_nonce, grant_of, grant_held}
-use Rattle.tva_sender.specs.Shapes.{nonce_of, list_length, nonce_length, renews, takes_nonce, fits, held, without_grant, under_grant, by_grant}
-use Rattle.tva_sender.specs.Showable.{IsNonce, IsShowableHeld, IsShowable, IsShowableContact, AreShowable}
-use Rattle.tva_sender.specs.Book.{of_peer}
 
 -- a shim could carry all that was prepared or taken
 abbrev AreShowableContacts : ℕ → List Contact → Type 0

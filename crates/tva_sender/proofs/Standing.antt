@@ -1,18 +1,6 @@
 -- The history after one more contact.
-use Rattle.std.proofs.Common.{◌≡◌, ◌≤◌, ℕ, Bool, not, ◌&&◌, true, false, cond, eqb, List, [], ◌∷◌, ◌++◌, Option, Some, None, Result, Ok, Err, OnOk, IsOk, append-nil, refl, ap, sym, subst, ◌∙◌, arith, eq-eqb}
-use Rattle.std.specs.Prelude.{nat_eq}
-use Rattle.std.specs.Map.{lookup}
+use Rattle.tva_sender.proofs.Common.{◌≡◌, ◌≤◌, ℕ, Bool, not, ◌&&◌, true, false, cond, eqb, List, [], ◌∷◌, ◌++◌, Option, Some, None, Result, Ok, Err, OnOk, IsOk, append-nil, refl, ap, sym, subst, ◌∙◌, arith, eq-eqb, nat_eq, lookup, and_parts, cases_eq, nat_tests, Address, Peer, Rights, Contact, Taken, is_within, AreNear, answered, IsNearPeer, Book, peer_at, of_peer, Keeps, IsStrange, IsKept, StandsFor, IsUpTo, NoneLater, IsNext, IsPlayed}
 use Rattle.std.proofs.Math.Logic.{⊎_elim}
-use Rattle.std.proofs.lemmas.Bool.{and_parts, cases_eq}
-use Rattle.std.proofs.lemmas.Bool.Decides.{nat_tests}
-use Rattle.tva_base.specs.declared.addresses.Address.{Address}
-use Rattle.tva_sender.specs.declared.peer.Peer.{Peer}
-use Rattle.tva_base.specs.declared.packet.Rights.{Rights}
-use Rattle.tva_sender.specs.Contacts.{Contact, Taken, is_within}
-use Rattle.tva_sender.specs.Near.{AreNear}
-use Rattle.tva_sender.specs.Steps.{answered, IsNearPeer}
-use Rattle.tva_sender.specs.Book.{Book, peer_at, of_peer, Keeps, IsStrange, IsKept, StandsFor}
-use Rattle.tva_sender.specs.Played.{IsUpTo, NoneLater, IsNext, IsPlayed}
 use Rattle.tva_sender.proofs.Keeping.{keeps_answered}
 use Rattle.tva_sender.proofs.Playing.{none-later, none-push, next-push}
 

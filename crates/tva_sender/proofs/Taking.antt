@@ -1,10 +1,6 @@
 -- The rights that a sender takes are such as its shims can carry.
-use Rattle.std.proofs.Common.{◌≡◌, ℕ, Bool, true, false, ◌||◌, eqb, List, refl, sym, subst, arith}
-use Rattle.std.proofs.lemmas.Bool.{and_parts, eqb-true, eqb-false}
-use Rattle.tva_base.specs.declared.packet.Rights.{Rights}
-use Rattle.tva_base.specs.Versions.{AreRights, AreSomeRights, IsVersion, carries}
+use Rattle.tva_sender.proofs.Common.{◌≡◌, ℕ, Bool, true, false, ◌||◌, eqb, List, refl, sym, subst, arith, and_parts, eqb-true, eqb-false, Rights, AreRights, AreSomeRights, IsVersion, carries, Contact, awaits, is_within, takes}
 use Rattle.tva_base.proofs.Widths.{carries-are}
-use Rattle.tva_sender.specs.Contacts.{Contact, awaits, is_within, takes}
 
 -- by whether the version is 2
 within : (second : Bool) (version : ℕ) → eqb version 2 ≡ second → IsVersion version → (rights : Rights) → AreSomeRights rights → (second || carries 1 rights) ≡ true → AreRights version rights

@@ -1,11 +1,6 @@
 -- Steps by the bits of an address lead to its place, and to nowhere if it has none.
-use Rattle.std.proofs.Common.{◌≡◌, ℕ, zero, suc, ◌<◌, ◌≤◌, ◌/◌, ◌%◌, Bool, eqb, List, [], ◌∷◌, length, get_or, Option, Some, None, refl, sym, ap, ◌∙◌, subst, inl, inr, arith}
-use Rattle.std.specs.Option.{option_and_then}
-use Rattle.std.proofs.lemmas.Bool.{cases_lt, cases_eq, eqb-false, eq-eqb, ne_eqb}
-use Rattle.std.proofs.lemmas.List.{get_or_read}
-use Rattle.tva_sender.specs.declared.places.Node.{Node}
-use Rattle.tva_sender.specs.Places.{IsNowhere, IsFirstAt}
-use Rattle.tva_sender.specs.Tree.{addresses_of, leaf, node, branch, bits_past, is_high, step, spot, IsTree, IsMissing}
+use Rattle.tva_sender.proofs.Common.{◌≡◌, ℕ, zero, suc, ◌<◌, ◌≤◌, ◌/◌, ◌%◌, Bool, eqb, List, [], ◌∷◌, length, get_or, Option, Some, None, refl, sym, ap, ◌∙◌, subst, inl, inr, arith, option_and_then, cases_lt, cases_eq, eqb-false, ne_eqb, get_or_read, Node, IsNowhere, IsFirstAt, addresses_of, leaf, node, branch, bits_past, is_high, step, spot, IsTree, IsMissing}
+use Rattle.std.proofs.lemmas.Bool.{eq-eqb}
 
 -- one step
 step-stays : (n : Node) (a depth at : ℕ) → n.address ≡ a → step n a depth at ≡ Some at

@@ -1,15 +1,10 @@
 -- How long a packet is at most.
-use Rattle.std.proofs.Common.{◌≤◌, ℕ, length, arith}
-use Rattle.tva_shim.specs.declared.kinds.Kind.{Kind}
+use Rattle.tva_shim.proofs.Common.{◌≤◌, ℕ, length, arith, Kind, ReturnInfo, ShimData, IsShim, entries_of, caps_of, granted_caps, layout, kind_size, return_size, size_few}
 use Rattle.tva_shim.specs.declared.kinds.Kind.TheVariants as kinds
-use Rattle.tva_shim.specs.declared.kinds.ReturnInfo.{ReturnInfo}
 use Rattle.tva_shim.specs.declared.kinds.ReturnInfo.TheVariants as backs
 use Rattle.tva_shim.specs.declared.packets.Carried.{Carried}
 use Rattle.tva_shim.specs.declared.packets.Carried.TheVariants as carried
-use Rattle.tva_shim.specs.Shims.{ShimData, IsShim, entries_of, caps_of, granted_caps}
-use Rattle.tva_shim.specs.Layout.{layout, kind_size, return_size}
 use Rattle.tva_shim.specs.Packets.{PacketData, IsCarried, IsWithinWidths, IsSizedPacket, carried_bytes, packet_length}
-use Rattle.tva_base.proofs.Widths.{size_few}
 use Rattle.tva_shim.proofs.Sizes.{length-layout}
 
 kind_within : (version : ℕ) (kind : Kind) → length (entries_of kind) ≤ 16 → length (caps_of kind) ≤ 16 → kind_size version kind ≤ 163

@@ -1,3 +1,4 @@
+mod Common
 pub mod Sizes
 pub mod Paired
 pub mod Lengths

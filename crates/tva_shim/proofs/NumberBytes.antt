@@ -1,14 +1,9 @@
 -- The bytes of a number that was read are those that were read.
-use Rattle.std.proofs.Common.{◌≡◌, ℕ, zero, suc, ◌+◌, ◌-◌, ◌*◌, ◌/◌, ◌%◌, ◌^◌, ◌<◌, ◌≤◌, List, [], ◌∷◌, ◌++◌, length, get_or, take, drop, Some, None, refl, sym, ap, ◌∙◌, arith}
+use Rattle.tva_shim.proofs.Common.{◌≡◌, ℕ, zero, suc, ◌+◌, ◌-◌, ◌*◌, ◌/◌, ◌%◌, ◌^◌, ◌<◌, ◌≤◌, List, [], ◌∷◌, ◌++◌, length, get_or, take, drop, Some, None, refl, sym, ap, ◌∙◌, arith, take-append-drop, take-append-le, take_all, drop_at, big_from, big_bytes, big_number, big_from-cons, big_from-lt, big_from-take, big_number-reads_back, length-bytes_high_first, rights_size, two_bytes, six_bytes, eight_bytes, number_bytes, Reads, IsBelow}
 use Rattle.std.proofs.Math.Nat.{div-one, mod-eq_of_lt, mul-add-div_right, mul-add-mod_self_right, mul_assoc, one-le-pow, pow-succ'}
 use Rattle.std.proofs.lemmas.Nat.{div-mul-add, pow-add}
 use Rattle.std.specs.Int.{byte_at, bytes_high_first}
-use Rattle.std.proofs.lemmas.List.{take-append-drop, take-append-le, take_all, drop_at, length-append}
-use Rattle.byteorder.specs.Endian.{big_from, big_bytes, big_number}
-use Rattle.byteorder.specs.Numbers.{big_from-cons, big_from-lt, big_from-take, big_number-reads_back, length-bytes_high_first}
-use Rattle.tva_base.specs.Versions.{rights_size}
-use Rattle.tva_shim.specs.Layout.{two_bytes, six_bytes, eight_bytes, number_bytes}
-use Rattle.tva_shim.specs.Parts.{Reads, IsBelow}
+use Rattle.std.proofs.lemmas.List.{length-append}
 
 abbrev pub AreBytes : List ℕ → Type 0
 AreBytes bytes = (i : ℕ) → get_or bytes i 0 < 256

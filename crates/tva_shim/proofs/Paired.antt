@@ -1,10 +1,5 @@
 -- Entries whose tags and pre-capabilities stand in two lists.
-use Rattle.std.proofs.Common.{◌≡◌, ℕ, ◌<◌, ◌≤◌, ◌+◌, ◌^◌, List, [], ◌∷◌, ◌++◌, length, get_or, map, take, All, refl, sym, ap, ◌∙◌, arith, length-append, min}
-use Rattle.std.proofs.lemmas.List.{length-take, length-take-le, take_all, take_more}
-use Rattle.std.proofs.lemmas.List.Elements.{All-nil, All-push}
-use Rattle.tva_shim.specs.declared.entries.Entry.{Entry}
-use Rattle.tva_shim.specs.Widths.{AreEntries, IsEntry}
-use Rattle.tva_shim.specs.Paired.{paired}
+use Rattle.tva_shim.proofs.Common.{◌≡◌, ℕ, ◌<◌, ◌≤◌, ◌+◌, ◌^◌, List, [], ◌∷◌, ◌++◌, length, get_or, map, take, All, refl, sym, ap, ◌∙◌, arith, length-append, min, length-take, length-take-le, take_all, take_more, All-nil, All-push, Entry, AreEntries, IsEntry, paired}
 
 paired_push : (tags precaps : List ℕ) (e : Entry) → length tags ≡ length precaps
     → paired (tags ++ e.tag ∷ []) (precaps ++ e.precap ∷ []) ≡ paired tags precaps ++ e ∷ []

@@ -1,26 +1,8 @@
 -- Bytes are the layout of one shim, or of none: at their front each part is read, or doesn't stand there.
-use Rattle.std.proofs.Common.{◌≡◌, ◌⊎◌, inl, inr, ℕ, zero, suc, ◌+◌, ◌*◌, ◌/◌, ◌%◌, ◌^◌, ◌≤◌, Bool, true, false, List, [], ◌∷◌, ◌++◌, length, drop, Option, Some, None, refl, sym, ap, subst, ◌∙◌, append-nil, arith}
-use Rattle.std.specs.Prelude.{◌==◌}
-use Rattle.std.specs.List.{flat_map}
+use Rattle.tva_shim.proofs.Common.{◌≡◌, ◌⊎◌, inl, inr, ℕ, zero, suc, ◌+◌, ◌*◌, ◌/◌, ◌%◌, ◌^◌, ◌≤◌, Bool, true, false, List, [], ◌∷◌, ◌++◌, length, drop, Option, Some, None, refl, sym, ap, subst, ◌∙◌, append-nil, arith, ◌==◌, flat_map, drop_at, All-nil, All-cons, All-head, All-tail, big_bytes, big_number, big_number-reads_back, length-bytes_high_first, Rights, AreRights, rights_number, rights_size, seconds_max, units_max, number_fits, rights_from, same_rights, ShimType, Entry, Shown, Kind, ReturnInfo, IsCap, IsEntry, ShimData, IsShim, two_bytes, six_bytes, eight_bytes, rights_bytes, entry_bytes, shown_bytes, kind_bytes, return_bytes, demoted_bit, layout, Reads, IsBelow, IsAtMost, one_byte, AreSoMany, IsWholeShown, IsType, type_bytes, returns_bit, IsKindPart, IsReturnPart, IsGrant, grant_bytes}
 use Rattle.std.proofs.lemmas.Bool.Decides.{leb_tells, eqb_tells}
-use Rattle.std.proofs.lemmas.List.{drop_at}
-use Rattle.std.proofs.lemmas.List.Elements.{All-nil, All-cons, All-head, All-tail}
-use Rattle.byteorder.specs.Endian.{big_bytes, big_number}
-use Rattle.byteorder.specs.Numbers.{big_number-reads_back, length-bytes_high_first}
-use Rattle.tva_base.specs.declared.packet.Rights.{Rights}
-use Rattle.tva_base.specs.Versions.{AreRights, rights_number, rights_size, seconds_max, units_max}
-use Rattle.tva_base.proofs.Widths.{number_fits, rights_from, same_rights}
-use Rattle.tva_shim.specs.declared.decoding.ShimType.{ShimType}
-use Rattle.tva_shim.specs.declared.entries.Entry.{Entry}
-use Rattle.tva_shim.specs.declared.kinds.Shown.{Shown}
-use Rattle.tva_shim.specs.declared.kinds.Kind.{Kind}
 use Rattle.tva_shim.specs.declared.kinds.Kind.TheVariants as kinds
-use Rattle.tva_shim.specs.declared.kinds.ReturnInfo.{ReturnInfo}
 use Rattle.tva_shim.specs.declared.kinds.ReturnInfo.TheVariants as backs
-use Rattle.tva_shim.specs.Widths.{IsCap, IsEntry}
-use Rattle.tva_shim.specs.Shims.{ShimData, IsShim}
-use Rattle.tva_shim.specs.Layout.{two_bytes, six_bytes, eight_bytes, rights_bytes, entry_bytes, shown_bytes, kind_bytes, return_bytes, demoted_bit, layout}
-use Rattle.tva_shim.specs.Parts.{Reads, IsBelow, IsAtMost, one_byte, AreSoMany, IsWholeShown, IsType, type_bytes, returns_bit, IsKindPart, IsReturnPart, IsGrant, grant_bytes}
 use Rattle.tva_shim.proofs.NumberBytes.{two_bytes-is, six_bytes-is, eight_bytes-is, number_bytes-is}
 use Rattle.tva_shim.proofs.Reading.{IsBoth, both, none_some, some_pair, front_missing, back_missing, both_read, other_missing, other_read, begun_none, begun_all}
 use Rattle.tva_shim.proofs.Wholes.{shown_of, shown_there, shown_back, shim_of, shim_there, shim_back, grant_missing, grant_read}

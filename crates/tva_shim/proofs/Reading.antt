@@ -1,11 +1,7 @@
 -- Readings of parts make the reading of the whole.
-use Rattle.std.proofs.Common.{◌≡◌, ℕ, zero, suc, ◌<◌, List, [], ◌∷◌, ◌++◌, length, take, drop, Option, Some, None, refl, sym, ap, subst, ◌∙◌, append_assoc, append-nil, arith, length-append}
-use Rattle.std.proofs.lemmas.List.{take_all, drop_all}
+use Rattle.tva_shim.proofs.Common.{◌≡◌, ℕ, zero, suc, ◌<◌, List, [], ◌∷◌, ◌++◌, length, take, drop, Option, Some, None, refl, sym, ap, subst, ◌∙◌, append_assoc, append-nil, arith, length-append, take_all, drop_all, flat_map, All-nil, All-head, All-tail, All-push, Reads, AreSoMany}
 use Rattle.std.specs.Prelude.{All}
-use Rattle.std.specs.List.{flat_map}
-use Rattle.std.proofs.lemmas.List.Elements.{All-nil, All-head, All-tail, All-push}
 use Rattle.std.proofs.lemmas.Grind.{flat_map-append}
-use Rattle.tva_shim.specs.Parts.{Reads, AreSoMany}
 
 abbrev pub some : {A : Type 0} → A → Option A
 some x = Some x

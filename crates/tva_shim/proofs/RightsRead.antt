@@ -1,10 +1,5 @@
 -- Rights are read as their number is.
-use Rattle.std.proofs.Common.{◌≡◌, ℕ, ◌^◌, List, ◌++◌, Some, None, ap, ◌∙◌}
-use Rattle.tva_base.specs.declared.packet.Rights.{Rights}
-use Rattle.tva_base.specs.Versions.{AreRights, rights_number, rights_size}
-use Rattle.tva_base.proofs.Widths.{number_fits}
-use Rattle.tva_shim.specs.Layout.{number_bytes, rights_bytes}
-use Rattle.tva_shim.specs.Parts.{Reads, IsBelow}
+use Rattle.tva_shim.proofs.Common.{◌≡◌, ℕ, ◌^◌, List, ◌++◌, Some, None, ap, ◌∙◌, Rights, AreRights, rights_number, rights_size, number_fits, number_bytes, rights_bytes, Reads, IsBelow}
 use Rattle.tva_shim.proofs.Reading.{some_pair}
 
 -- without a number there are no rights

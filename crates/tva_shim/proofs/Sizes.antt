@@ -1,17 +1,7 @@
 -- How many bytes a layout has.
-use Rattle.std.proofs.Common.{◌≡◌, ℕ, ◌+◌, ◌*◌, List, [], ◌∷◌, length, refl, arith, length-append}
-use Rattle.std.specs.List.{flat_map}
-use Rattle.byteorder.specs.Numbers.{length-bytes_high_first}
-use Rattle.tva_base.specs.declared.packet.Rights.{Rights}
-use Rattle.tva_base.specs.Versions.{rights_number, rights_size}
-use Rattle.tva_shim.specs.declared.entries.Entry.{Entry}
-use Rattle.tva_shim.specs.declared.kinds.Shown.{Shown}
-use Rattle.tva_shim.specs.declared.kinds.Kind.{Kind}
+use Rattle.tva_shim.proofs.Common.{◌≡◌, ℕ, ◌+◌, ◌*◌, List, [], ◌∷◌, length, refl, arith, length-append, flat_map, length-bytes_high_first, Rights, rights_number, rights_size, Entry, Shown, Kind, ReturnInfo, ShimData, two_bytes, six_bytes, eight_bytes, number_bytes, rights_bytes, entry_bytes, shown_bytes, kind_bytes, return_bytes, layout, kind_size, return_size, shim_size}
 use Rattle.tva_shim.specs.declared.kinds.Kind.TheVariants as kinds
-use Rattle.tva_shim.specs.declared.kinds.ReturnInfo.{ReturnInfo}
 use Rattle.tva_shim.specs.declared.kinds.ReturnInfo.TheVariants as backs
-use Rattle.tva_shim.specs.Shims.{ShimData}
-use Rattle.tva_shim.specs.Layout.{two_bytes, six_bytes, eight_bytes, number_bytes, rights_bytes, entry_bytes, shown_bytes, kind_bytes, return_bytes, layout, kind_size, return_size, shim_size}
 
 pub length-two_bytes : (n : ℕ) → length (two_bytes n) ≡ 2
 unfolding two_bytes

@@ -1,8 +1,5 @@
 -- The last numbers of a list that aren't 0, one by one.
-use Rattle.std.proofs.Common.{◌≡◌, ℕ, ◌<◌, ◌+◌, Bool, true, false, cond, nat_lt, List, [], ◌∷◌, ◌++◌, length, get_or, take, filter, refl, sym, ap, ◌∙◌, append-nil}
-use Rattle.std.proofs.lemmas.List.{take_more}
-use Rattle.std.proofs.lemmas.List.Elements.{filter-append}
-use Rattle.tva_shim.specs.Changes.{last_or_zero, last_but_one_or_zero}
+use Rattle.tva_shim.proofs.Common.{◌≡◌, ℕ, ◌<◌, ◌+◌, Bool, true, false, cond, nat_lt, List, [], ◌∷◌, ◌++◌, length, get_or, take, filter, refl, sym, ap, ◌∙◌, append-nil, take_more, filter-append, last_or_zero, last_but_one_or_zero}
 
 abbrev last : List ℕ → ℕ
 last ns = last_or_zero (filter (nat_lt 0) ns)

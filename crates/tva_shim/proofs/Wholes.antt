@@ -1,19 +1,7 @@
 -- What is shown, a grant and a shim are read as their parts are.
-use Rattle.std.proofs.Common.{◌≡◌, ℕ, ◌+◌, ◌*◌, ◌^◌, ◌≤◌, Bool, true, false, List, [], ◌∷◌, ◌++◌, length, Some, None, refl, sym, ap, ◌∙◌, append_assoc, append-nil, arith}
-use Rattle.std.specs.Prelude.{◌==◌}
-use Rattle.std.specs.List.{flat_map}
-use Rattle.tva_base.specs.declared.packet.Rights.{Rights}
-use Rattle.tva_base.specs.Versions.{AreRights}
-use Rattle.tva_shim.specs.declared.decoding.ShimType.{ShimType}
-use Rattle.tva_shim.specs.declared.kinds.Shown.{Shown}
-use Rattle.tva_shim.specs.declared.kinds.Kind.{Kind}
+use Rattle.tva_shim.proofs.Common.{◌≡◌, ℕ, ◌+◌, ◌*◌, ◌^◌, ◌≤◌, Bool, true, false, List, [], ◌∷◌, ◌++◌, length, Some, None, refl, sym, ap, ◌∙◌, append_assoc, append-nil, arith, ◌==◌, flat_map, Rights, AreRights, ShimType, Shown, Kind, ReturnInfo, IsCap, ShimData, IsShim, six_bytes, eight_bytes, rights_bytes, shown_bytes, kind_bytes, kind_code, return_bytes, return_bit, demoted_bit, layout, Reads, IsBelow, IsAtMost, one_byte, AreSoMany, IsWholeShown, IsType, type_bytes, returns_bit, IsKindPart, IsReturnPart, IsGrant, grant_bytes}
 use Rattle.tva_shim.specs.declared.kinds.Kind.TheVariants as kinds
-use Rattle.tva_shim.specs.declared.kinds.ReturnInfo.{ReturnInfo}
 use Rattle.tva_shim.specs.declared.kinds.ReturnInfo.TheVariants as backs
-use Rattle.tva_shim.specs.Widths.{IsCap}
-use Rattle.tva_shim.specs.Shims.{ShimData, IsShim}
-use Rattle.tva_shim.specs.Layout.{six_bytes, eight_bytes, rights_bytes, shown_bytes, kind_bytes, kind_code, return_bytes, return_bit, demoted_bit, layout}
-use Rattle.tva_shim.specs.Parts.{Reads, IsBelow, IsAtMost, one_byte, AreSoMany, IsWholeShown, IsType, type_bytes, returns_bit, IsKindPart, IsReturnPart, IsGrant, grant_bytes}
 use Rattle.tva_shim.proofs.Reading.{IsBoth, both, some_pair}
 
 -- ---- what is shown: its nonce, the count, the pointer, the rights, and the capabilities

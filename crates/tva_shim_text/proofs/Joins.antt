@@ -1,9 +1,6 @@
 -- Words that are joined.
-use Rattle.std.proofs.Common.{◌≡◌, ◌∙◌, sym, ap, ℕ, List, [], ◌∷◌, ◌++◌, append_assoc}
-use Rattle.std.proofs.Common.{map, ◌-◌, ◌≤◌, take, drop, length, get_or, arith}
+use Rattle.tva_shim_text.proofs.Common.{◌≡◌, ◌∙◌, sym, ap, ℕ, List, [], ◌∷◌, ◌++◌, append_assoc, map, ◌-◌, ◌≤◌, take, drop, length, get_or, arith, flat_map, join_with_byte, or_dash}
 use Rattle.std.proofs.lemmas.List.{append-nil, take_all}
-use Rattle.std.specs.List.{flat_map, join_with_byte}
-use Rattle.tva_shim_text.specs.ShimText.{or_dash}
 
 -- joined words are the first, and the others with the byte before each
 join-flat : {X : Type 0} (c : ℕ) (w : List ℕ) (word : X → List ℕ) (rest : List X) → join_with_byte c (w ∷ map word rest) ≡ w ++ flat_map (λ x. c ∷ word x) rest

@@ -1,2 +1,3 @@
+mod Common
 pub mod Joins
 pub mod OneText

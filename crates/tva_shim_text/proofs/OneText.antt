@@ -1,10 +1,9 @@
 -- Bytes have one text.
-use Rattle.std.proofs.Common.{◌≡◌, ◌⊎◌, inl, inr, ℕ, List, refl, sym, ap, ◌∙◌}
+use Rattle.tva_shim_text.proofs.Common.{◌≡◌, ◌⊎◌, inl, inr, ℕ, List, refl, sym, ap, ◌∙◌, IsTextOf, shim_line}
 use Rattle.std.specs.Prelude.{codes}
 use Rattle.tva_shim.specs.Shims.{ShimData, IsShim}
 use Rattle.tva_shim.specs.Layout.{HaveNoShim, layout}
 use Rattle.tva_shim.proofs.Readable.{one_shim, shim_or_none}
-use Rattle.tva_shim_text.specs.ShimText.{IsTextOf, shim_line}
 
 pub text_is_one : (bytes text other : List ℕ) → IsTextOf bytes text → IsTextOf bytes other → text ≡ other
 text_is_one bytes text other (inl s) (inl t) = s.3 ∙ ap shim_line (one_shim s.0 t.0 s.1 t.1 (s.2 ∙ sym t.2)) ∙ sym t.3

@@ -1,3 +1,2 @@
-mod kept;
 mod outside;
 mod places;

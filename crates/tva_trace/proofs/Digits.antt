@@ -1,5 +1,5 @@
 -- How great a number in bytes is.
-use Rattle.std.proofs.Common.{ℕ, zero, suc, ◌^◌, ◌<◌, List, arith, lit<, slice_index}
+use Rattle.tva_trace.proofs.Common.{ℕ, zero, suc, ◌^◌, ◌<◌, List, arith, lit<, slice_index}
 use Rattle.std.proofs.lemmas.Nat.{mul-add-lt}
 use Rattle.byteorder.specs.Endian.{big_from}
 

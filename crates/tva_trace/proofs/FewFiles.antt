@@ -1,27 +1,14 @@
 -- In what is read of a text each node begins few transfers.
-use Rattle.std.proofs.Common.{◌≡◌, ℕ, ◌+◌, ◌≤◌, Bool, true, false, cond, List, [], ◌∷◌, ◌++◌, length, Option, Some, None, Result, Ok, Err, refl, sym, ap, subst, ◌∙◌, arith, append_assoc, append-nil}
-use Rattle.std.specs.Prelude.{nat_le, ◌==◌}
-use Rattle.std.specs.Option.{option_and_then}
-use Rattle.std.specs.List.{AllZip}
+use Rattle.tva_trace.proofs.Common.{◌≡◌, ℕ, ◌+◌, ◌≤◌, Bool, true, false, cond, List, [], ◌∷◌, ◌++◌, length, Option, Some, None, Result, Ok, Err, refl, sym, ap, subst, ◌∙◌, arith, append_assoc, nat_le, option_and_then, AllZip, Config, NodePlan, is_host, node_named, Row, TraceFault, SaidRow, SaidWhat, FindsRoom, row_shim, AreRows, Means, Ruled, ◌>>=◌, allowed, behind, demand, row_fault, field, filed_by, filing_of, flow_from, has_room, hold, injection_of, is_empty, is_header, kind_at, row_kind, positive, records_in, row_of, rows_from, rows_under, sending_of, then_rows, ticking_of, times, what_of, files_at}
+use Rattle.std.proofs.Common.{append-nil}
+use Rattle.std.specs.Prelude.{◌==◌}
 use Rattle.tva_base.specs.Addresses.{address_of}
 use Rattle.tva_base.specs.Decimal.{decimal_of}
-use Rattle.tva_plan.specs.declared.config.Config.{Config}
-use Rattle.tva_plan.specs.declared.config.NodePlan.{NodePlan}
-use Rattle.tva_plan.specs.Names.{is_host, node_named}
-use Rattle.tva_rows.specs.declared.rows.Row.{Row}
 use Rattle.tva_trace.specs.declared.rows.RowKind as kinds
 use Rattle.tva_trace.specs.declared.rows.RowKind.TheVariants as kind
-use Rattle.tva_trace.specs.declared.rows.TraceFault.{TraceFault}
 use Rattle.tva_trace.specs.declared.rows.TraceRule as rules
 use Rattle.tva_trace.specs.declared.rows.TraceRule.TheVariants as rule
-use Rattle.tva_trace.specs.declared.said.SaidRow.{SaidRow}
-use Rattle.tva_trace.specs.declared.said.SaidWhat.{SaidWhat}
 use Rattle.tva_trace.specs.declared.said.SaidWhat.TheVariants as say
-use Rattle.tva_trace.specs.Files.{FindsRoom}
-use Rattle.tva_trace.specs.Items.{row_shim}
-use Rattle.tva_trace.specs.Meaning.{AreRows, Means}
-use Rattle.tva_trace.specs.Rows.{Ruled, ◌>>=◌, allowed, behind, demand, row_fault, field, filed_by, filing_of, flow_from, has_room, hold, injection_of, is_empty, is_header, kind_at, row_kind, positive, records_in, row_of, rows_from, rows_under, sending_of, then_rows, ticking_of, times, what_of}
-use Rattle.tva_rows.specs.Valid.{files_at}
 use Rattle.tva_trace.proofs.FileCounts.{files_more, room_left}
 
 -- ## steps that gave something

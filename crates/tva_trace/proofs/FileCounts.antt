@@ -1,25 +1,10 @@
 -- How many rows of each node begin a transfer.
-use Rattle.std.proofs.Common.{◌≡◌, ◌∙◌, sym, ap, refl, subst, ℕ, ◌+◌, ◌==◌, ◌≤◌, ◌<◌, List, [], ◌∷◌, ◌++◌, Option, Some, None, IfSome, cond, Bool, true, false, ◌&&◌, inl, inr, arith}
-use Rattle.std.proofs.lemmas.Bool.{and_right, ltb-true}
+use Rattle.tva_trace.proofs.Common.{◌≡◌, ◌∙◌, sym, ap, refl, subst, ℕ, ◌+◌, ◌==◌, ◌≤◌, ◌<◌, List, [], ◌∷◌, ◌++◌, Option, Some, None, IfSome, cond, Bool, true, false, ◌&&◌, inl, inr, arith, and_right, ltb-true, eqb_tells, nat_eq, unwrap_or, Config, is_host, Row, RowWhat, SaidRow, SaidWhat, Counts, FindsRoom, counted, Means, MeansWhat, filed_by, has_room, times, begins, files_at, IsSaid, IsSaidWhat}
 use Rattle.std.proofs.Math.Bool.{and-true}
-use Rattle.std.proofs.lemmas.Bool.Decides.{eqb_tells}
 use Rattle.std.proofs.lemmas.List.Sums.{sum_by-append}
-use Rattle.std.specs.Prelude.{nat_eq}
-use Rattle.std.specs.Option.{unwrap_or}
 use Rattle.std.specs.HashMap.{HashMap}
 use Rattle.std.specs.Map.{lookup}
-use Rattle.tva_plan.specs.declared.config.Config.{Config}
-use Rattle.tva_plan.specs.Names.{is_host}
-use Rattle.tva_rows.specs.declared.rows.Row.{Row}
-use Rattle.tva_rows.specs.declared.rows.RowWhat.{RowWhat}
-use Rattle.tva_trace.specs.declared.said.SaidRow.{SaidRow}
-use Rattle.tva_trace.specs.declared.said.SaidWhat.{SaidWhat}
 use Rattle.tva_trace.specs.declared.said.SaidWhat.TheVariants as say
-use Rattle.tva_trace.specs.Files.{Counts, FindsRoom, counted}
-use Rattle.tva_trace.specs.Meaning.{Means, MeansWhat}
-use Rattle.tva_trace.specs.Rows.{filed_by, has_room, times}
-use Rattle.tva_rows.specs.Valid.{begins, files_at}
-use Rattle.tva_trace.specs.Valid.{IsSaid, IsSaidWhat}
 
 times-append : (a b : List ℕ) (node : ℕ) → times (a ++ b) node ≡ times a node + times b node
 times-append a b node = sum_by-append (λ n. cond (n == node) 1 0) a b

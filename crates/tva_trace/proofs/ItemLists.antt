@@ -1,15 +1,9 @@
 -- The capabilities of items that are read in turn.
-use Rattle.std.proofs.Common.{◌≡◌, ◌∙◌, sym, ap, refl, ℕ, ◌+◌, ◌<◌, ◌≤◌, List, [], ◌∷◌, ◌++◌, length, get_or, drop, drop-cons, append_assoc, Option, Some, None, cond, Bool, true, false, nat_le, arith, add-one, inl, inr}
-use Rattle.std.proofs.lemmas.Bool.{le-leb}
-use Rattle.std.proofs.lemmas.Bool.Decides.{leb_tells}
-use Rattle.std.proofs.lemmas.List.{append-nil, drop_all}
-use Rattle.std.specs.List.{slice_split}
-use Rattle.std.proofs.Common.{◌==◌}
+use Rattle.tva_trace.proofs.Common.{◌≡◌, ◌∙◌, sym, ap, refl, ℕ, ◌+◌, ◌<◌, ◌≤◌, List, [], ◌∷◌, ◌++◌, length, get_or, drop, drop-cons, append_assoc, Option, Some, None, cond, Bool, true, false, arith, add-one, inl, inr, le-leb, leb_tells, append-nil, drop_all, slice_split, ◌==◌, NodePlan, caps_of_items, each_of, few, item_of, items_in}
+use Rattle.std.proofs.Common.{nat_le}
 use Rattle.tva_base.specs.declared.packet.Flow.{Flow}
 use Rattle.tva_base.specs.declared.packet.Rights.{Rights}
 use Rattle.tva_base.specs.Options.{◌>>=◌}
-use Rattle.tva_plan.specs.declared.config.NodePlan.{NodePlan}
-use Rattle.tva_trace.specs.Items.{caps_of_items, each_of, few, item_of, items_in}
 
 -- capabilities behind those that were read
 abbrev pub behind_caps : List ℕ → Option (List ℕ) → Option (List ℕ)

@@ -1,24 +1,11 @@
 -- A text has one list of rows at most.
-use Rattle.std.proofs.Common.{◌≡◌, List, [], ◌∷◌, ℕ, refl, sym, ap, subst, ◌∙◌, Result, Ok, Err, IfOk}
-use Rattle.std.specs.List.{AllZip}
+use Rattle.tva_trace.proofs.Common.{◌≡◌, List, [], ◌∷◌, ℕ, refl, sym, ap, subst, ◌∙◌, Result, Ok, Err, IfOk, AllZip, Carried, one_shim, some_bytes, Config, Row, RowWhat, TraceFault, SaidRow, SaidShim, Bytes, Built, SaidWhat, CarriedByBytes, AreRows, CarriedBy, Means, MeansWhat}
 use Rattle.tva_base.specs.declared.packet.Time.{Time}
-use Rattle.tva_shim.specs.declared.packets.Carried.{Carried}
 use Rattle.tva_shim.specs.declared.packets.Carried.TheVariants as carried
-use Rattle.tva_shim.proofs.Readable.{one_shim, some_bytes}
-use Rattle.tva_plan.specs.declared.config.Config.{Config}
-use Rattle.tva_rows.specs.declared.rows.Row.{Row}
-use Rattle.tva_rows.specs.declared.rows.RowWhat.{RowWhat}
 use Rattle.tva_rows.specs.declared.rows.RowWhat.TheVariants as what
 use Rattle.tva_trace.specs.declared.rows.TraceError.{TraceError}
-use Rattle.tva_trace.specs.declared.rows.TraceFault.{TraceFault}
-use Rattle.tva_trace.specs.declared.said.SaidRow.{SaidRow}
-use Rattle.tva_trace.specs.declared.said.SaidShim.{SaidShim}
-use Rattle.tva_trace.specs.declared.said.SaidShim.TheVariants.{Bytes, Built}
-use Rattle.tva_trace.specs.declared.said.SaidWhat.{SaidWhat}
 use Rattle.tva_trace.specs.declared.said.SaidWhat.TheVariants as say
 use Rattle.tva_trace.specs.Packed.{AnswersPacked}
-use Rattle.tva_rows.specs.Raw.{CarriedByBytes}
-use Rattle.tva_trace.specs.Meaning.{AreRows, CarriedBy, Means, MeansWhat}
 
 bytes_mean_one : (bytes : List ℕ) (a b : Carried) → CarriedByBytes bytes a → CarriedByBytes bytes b → a ≡ b
 bytes_mean_one bytes carried.Nothing carried.Nothing p q = refl

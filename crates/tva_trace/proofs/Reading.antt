@@ -1,41 +1,15 @@
 -- How far a trace is read.
-use Rattle.std.proofs.Common.{◌≡◌, ◌∙◌, sym, ap, refl, ℕ, ◌+◌, ◌≤◌, ◌==◌, List, [], ◌∷◌, ◌++◌, ◌-◌, length, length-append, append_assoc, Option, Some, None, Result, Ok, Err, cond, Bool, true, false, Bor, inl, inr, arith}
-use Rattle.std.proofs.lemmas.Bool.Decides.{eqb_tells}
-use Rattle.std.specs.List.{AllZip}
-use Rattle.std.proofs.lemmas.Bool.{eqb-true}
-use Rattle.std.proofs.lemmas.List.{append-nil}
-use Rattle.std.proofs.Common.{eq-eqb}
-use Rattle.csv.proofs.ReadFacts.{rows-end}
+use Rattle.tva_trace.proofs.Common.{◌≡◌, ◌∙◌, sym, ap, refl, ℕ, ◌+◌, ◌≤◌, ◌==◌, List, [], ◌∷◌, ◌++◌, ◌-◌, length, length-append, append_assoc, Option, Some, None, Result, Ok, Err, cond, Bool, true, false, Bor, inl, inr, arith, eqb_tells, AllZip, eqb-true, append-nil, eq-eqb, rows-end, ExplainsRead, ReadRecord, Ready, default_config, source_of, strip_bom, Reader, Config, Row, TraceRule, TraceFault, SaidRow, Counts, FindsRoom, filed_in, Ruled, behind, row_fault, filed_by, has_room, is_header, row_of, rows_from, rows_of, rows_under, said_by, some_row, then_rows, times, AreRows, CarriedBy, IsPut, Means, MeansWhat, IfSome, subst, All, Carried, RowWhat, SaidShim, Bytes, Built, SaidWhat, is_host, AreTraceRows, IsRow, IsRowWhat, NeverFall, files_at, IsSaid, IsSaidShim, IsSaidWhat}
 use Rattle.csv.specs.declared.parser.State.TheVariants as st
-use Rattle.csv.specs.Reading.{ExplainsRead, ReadRecord, Ready, default_config, source_of, strip_bom}
 use Rattle.csv.specs.declared.error.ErrorKind.{ErrorKind}
 use Rattle.csv.specs.declared.error.ErrorKind.TheVariants as why
 use Rattle.tva_trace.specs.Shortage.{IsShortage}
-use Rattle.csv.specs.declared.reader.Reader.{Reader}
 use Rattle.csv.specs.declared.reader.Trim.TheVariants as trim
-use Rattle.tva_plan.specs.declared.config.Config.{Config}
 use Rattle.std.proofs.lemmas.List.Elements.{All-push}
-use Rattle.tva_rows.specs.declared.rows.Row.{Row}
-use Rattle.tva_trace.specs.declared.rows.TraceRule.{TraceRule}
 use Rattle.tva_trace.specs.declared.rows.TraceRule.TheVariants as rule
-use Rattle.tva_trace.specs.declared.rows.TraceFault.{TraceFault}
-use Rattle.tva_trace.specs.declared.said.SaidRow.{SaidRow}
-use Rattle.tva_trace.specs.Files.{Counts, FindsRoom, filed_in}
-use Rattle.tva_trace.specs.Rows.{Ruled, behind, row_fault, filed_by, has_room, is_header, row_of, rows_from, rows_of, rows_under, said_by, some_row, then_rows, times}
-use Rattle.tva_trace.specs.Meaning.{AreRows, CarriedBy, IsPut, Means, MeansWhat}
-use Rattle.std.proofs.Common.{IfSome, subst}
-use Rattle.std.specs.Prelude.{All}
-use Rattle.tva_shim.specs.declared.packets.Carried.{Carried}
 use Rattle.tva_shim.specs.declared.packets.Carried.TheVariants as carried
-use Rattle.tva_rows.specs.declared.rows.RowWhat.{RowWhat}
-use Rattle.tva_trace.specs.declared.said.SaidShim.{SaidShim}
-use Rattle.tva_trace.specs.declared.said.SaidShim.TheVariants.{Bytes, Built}
-use Rattle.tva_trace.specs.declared.said.SaidWhat.{SaidWhat}
 use Rattle.tva_trace.specs.declared.said.SaidWhat.TheVariants as say
-use Rattle.tva_plan.specs.Names.{is_host}
 use Rattle.tva_shim.specs.Packets.{IsWithinWidths}
-use Rattle.tva_rows.specs.Valid.{AreTraceRows, IsRow, IsRowWhat, NeverFall, files_at}
-use Rattle.tva_trace.specs.Valid.{IsSaid, IsSaidShim, IsSaidWhat}
 use Rattle.tva_trace.proofs.FileCounts.{counts_more, counts_same, files_more, finds_room, room_left}
 use Rattle.tva_trace.proofs.RecordsLeft.{left_of, left-none, left-read}
 

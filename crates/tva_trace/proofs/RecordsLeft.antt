@@ -1,12 +1,10 @@
 -- The records that are left of a text.
-use Rattle.std.proofs.Common.{◌≡◌, ◌∙◌, sym, ap, refl, ℕ, zero, suc, ◌+◌, ◌<◌, List, [], ◌∷◌, ◌++◌, length, Option, Some, None, cond, Bool, true, false, ◌⊎◌, inl, inr, arith, add-one}
+use Rattle.tva_trace.proofs.Common.{◌≡◌, ◌∙◌, sym, ap, refl, ℕ, zero, suc, ◌+◌, ◌<◌, List, [], ◌∷◌, ◌++◌, length, Option, Some, None, cond, Bool, true, false, ◌⊎◌, inl, inr, arith, add-one, records_next, ReadRecord, source_of, Reader, rows-more}
 use Rattle.csv.specs.Machine.{Read, next_record, step, is_end, fields_after, field_after, ends_at_end}
-use Rattle.csv.specs.Reading.{records_from, records_next, Reached, ReadRecord, source_of}
+use Rattle.csv.specs.Reading.{records_from, Reached}
 use Rattle.csv.specs.declared.parser.Config.{Config}
 use Rattle.csv.specs.declared.parser.State.{State}
 use Rattle.csv.specs.declared.parser.State.TheVariants as st
-use Rattle.csv.specs.declared.reader.Reader.{Reader}
-use Rattle.csv.proofs.ReadFacts.{rows-more}
 
 -- the records of a text, from a state
 abbrev pub left_of : Config → State → List ℕ → List (List (List ℕ))

@@ -1,23 +1,10 @@
 -- A text that is read has rows.
-use Rattle.std.proofs.Common.{◌≡◌, ◌⊎◌, inl, inr, ℕ, List, [], ◌∷◌, length, refl, Ok}
-use Rattle.std.specs.List.{AllZip}
-use Rattle.tva_shim.specs.declared.packets.Carried.{Carried}
+use Rattle.tva_trace.proofs.Common.{◌≡◌, ◌⊎◌, inl, inr, ℕ, List, [], ◌∷◌, length, refl, Ok, AllZip, Carried, shim_or_none, Config, Row, RowWhat, SaidRow, SaidShim, Bytes, Built, SaidWhat, rows_of, CarriedByBytes, AreRows, CarriedBy, Means, MeansWhat}
 use Rattle.tva_shim.specs.declared.packets.Carried.TheVariants as carried
 use Rattle.tva_shim.specs.Shims.{ShimData, IsShim}
 use Rattle.tva_shim.specs.Layout.{HaveNoShim, layout}
-use Rattle.tva_shim.proofs.Readable.{shim_or_none}
-use Rattle.tva_plan.specs.declared.config.Config.{Config}
-use Rattle.tva_rows.specs.declared.rows.Row.{Row}
-use Rattle.tva_rows.specs.declared.rows.RowWhat.{RowWhat}
 use Rattle.tva_rows.specs.declared.rows.RowWhat.TheVariants as what
-use Rattle.tva_trace.specs.declared.said.SaidRow.{SaidRow}
-use Rattle.tva_trace.specs.declared.said.SaidShim.{SaidShim}
-use Rattle.tva_trace.specs.declared.said.SaidShim.TheVariants.{Bytes, Built}
-use Rattle.tva_trace.specs.declared.said.SaidWhat.{SaidWhat}
 use Rattle.tva_trace.specs.declared.said.SaidWhat.TheVariants as say
-use Rattle.tva_trace.specs.Rows.{rows_of}
-use Rattle.tva_rows.specs.Raw.{CarriedByBytes}
-use Rattle.tva_trace.specs.Meaning.{AreRows, CarriedBy, Means, MeansWhat}
 
 carried_if : (b : ℕ) (bs : List ℕ) → ((s : ShimData) × IsShim s × (layout s ≡ b ∷ bs)) ⊎ HaveNoShim (b ∷ bs)
     → (c : Carried) × CarriedByBytes (b ∷ bs) c

@@ -1,11 +1,6 @@
 -- Acts and steps in their order.
-use Rattle.std.proofs.Common.{◌≡◌, ℕ, true, false, cond, eqb, List, [], ◌∷◌, ◌++◌, Some, None, refl, sym, ap, subst, ◌∙◌, ⊎_elim}
-use Rattle.std.proofs.lemmas.Bool.{cases_Bool, eqb-true, eq-eqb}
-use Rattle.std.proofs.lemmas.List.{append-nil}
-use Rattle.std.proofs.lemmas.List.Elements.{filter_map-append}
+use Rattle.tva_transfer.proofs.Common.{◌≡◌, ℕ, true, false, cond, eqb, List, [], ◌∷◌, ◌++◌, Some, None, refl, sym, ap, subst, ◌∙◌, ⊎_elim, cases_Bool, eqb-true, eq-eqb, append-nil, filter_map-append, Act, Step, acts_at}
 use Rattle.std.proofs.Math.Seq.{append_snoc}
-use Rattle.tva_transfer.specs.Files.{Act}
-use Rattle.tva_transfer.specs.Couriers.{Step, acts_at}
 
 -- what holds of no element, and of each list with one more where it holds of the list, holds of all lists
 module _ {A : Type 0} (P : List A → Type 0) (none : P []) (more : (xs : List A) (x : A) → P xs → P (xs ++ x ∷ [])) where

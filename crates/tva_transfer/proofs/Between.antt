@@ -1,18 +1,5 @@
 -- What passes between couriers.
-use Rattle.std.proofs.Common.{◌≡◌, ◌≢◌, ℕ, ◌+◌, ◌≤◌, true, cond, List, [], ◌∷◌, ◌++◌, Some, length, sym, ap, subst, ◌∙◌, ⊎_elim, append_assoc, arith}
-use Rattle.std.specs.List.{Contains, slice_get}
-use Rattle.std.specs.Option.{IsSomeAnd}
-use Rattle.std.proofs.lemmas.Bool.{cases_Bool, eqb-true}
-use Rattle.std.proofs.lemmas.Option.{slice_get_within}
-use Rattle.tva_base.specs.declared.addresses.Address.{Address}
-use Rattle.tva_base.specs.declared.packet.Flow.{Flow}
-use Rattle.tva_base.specs.declared.packet.Upper.{Upper}
-use Rattle.tva_base.specs.declared.packet.Upper.TheVariants.{Nothing, Data, Ack}
-use Rattle.tva_base.specs.declared.event.DataLine.{DataLine}
-use Rattle.tva_shim.specs.Packets.{PacketData}
-use Rattle.tva_transfer.specs.declared.transfers.Transfer.{Transfer}
-use Rattle.tva_transfer.specs.Files.{Files, Act, Came, after_act, files_of, heard, is_addressed_to, next_of}
-use Rattle.tva_transfer.specs.Couriers.{AreFrom, IsSent, IsWithin, Step, acts_at, files_at, ranges_of, sent_by}
+use Rattle.tva_transfer.proofs.Common.{◌≡◌, ◌≢◌, ℕ, ◌+◌, ◌≤◌, true, cond, List, [], ◌∷◌, ◌++◌, Some, length, sym, ap, subst, ◌∙◌, ⊎_elim, append_assoc, arith, Contains, slice_get, IsSomeAnd, cases_Bool, eqb-true, slice_get_within, Address, Flow, Upper, Nothing, Data, Ack, DataLine, PacketData, Transfer, Files, Act, Came, after_act, files_of, heard, is_addressed_to, next_of, AreFrom, IsSent, IsWithin, Step, acts_at, files_at, ranges_of, sent_by}
 use Rattle.tva_transfer.proofs.Acts.{acts_at-step, step_at}
 use Rattle.tva_transfer.proofs.History.{HasCome, next_of-rises, ranges_came}
 use Rattle.tva_transfer.proofs.Sent.{IsKept, IsOf, address_is, acked_came, sent_ack, sent_data, stays}

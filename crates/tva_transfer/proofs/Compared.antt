@@ -1,15 +1,6 @@
 -- Look-ups by a comparison of keys find what look-ups by a test find. A key is an address with a number.
-use Rattle.std.proofs.Common.{◌≡◌, ℕ, ◌||◌, ◌&&◌, Bool, true, false, cond, eqb, ltb, ◌≤◌, List, [], ◌∷◌, Option, Some, Ordering, refl, ap, sym, ◌∙◌, arith}
-use Rattle.std.specs.List.{list_any}
+use Rattle.tva_transfer.proofs.Common.{◌≡◌, ℕ, ◌||◌, ◌&&◌, Bool, true, false, cond, eqb, ltb, ◌≤◌, List, [], ◌∷◌, Option, Some, Ordering, refl, ap, sym, ◌∙◌, arith, list_any, lookup, unwrap_or, is_eq, is_gt, nat_cmp, ordering_then, eq-eqb, le-ltb, ltb-false, or_parts, nat_tests, Address, next_kept, has_key}
 use Rattle.std.specs.declared.cmp.Ordering.TheVariants.{Less, Equal, Greater}
-use Rattle.std.specs.Map.{lookup}
-use Rattle.std.specs.Option.{unwrap_or}
-use Rattle.std.specs.Ordering.{is_eq, is_gt, nat_cmp, ordering_then}
-use Rattle.std.proofs.lemmas.Bool.{eq-eqb, le-ltb, ltb-false, or_parts}
-use Rattle.std.proofs.lemmas.Bool.Decides.{nat_tests}
-use Rattle.tva_base.specs.declared.addresses.Address.{Address}
-use Rattle.tva_transfer.specs.Stands.{next_kept}
-use Rattle.tva_transfer.specs.Sound.{has_key}
 
 list_any_same : {X : Type 0} (p q : X → Bool) → ((x : X) → p x ≡ q x) → (xs : List X) → list_any p xs ≡ list_any q xs
 list_any_same p q e [] = refl

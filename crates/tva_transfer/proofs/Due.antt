@@ -1,15 +1,5 @@
 -- Which transfers are due, after a transfer begins and after more of one is acknowledged.
-use Rattle.std.proofs.Common.{◌≡◌, ℕ, ◌<◌, ◌≤◌, ◌&&◌, Bool, true, false, cond, eqb, ltb, List, [], ◌∷◌, ◌++◌, length, get_or, set, Some, None, refl, sym, ap, ◌∙◌, ⊎_elim, arith}
-use Rattle.std.specs.List.{position, position_or_len, slice_get}
-use Rattle.std.specs.Option.{option_map_or}
-use Rattle.std.proofs.lemmas.Bool.{cases_Bool, and_parts, and_right, eqb-true, lt-ltb, le-ltb, cases_lt, false≢true}
-use Rattle.std.proofs.lemmas.Bool.Decides.{nat_tests}
-use Rattle.std.proofs.lemmas.List.Sums.{position_or_len_is}
-use Rattle.std.proofs.lemmas.Option.{slice_get_past, slice_get_within, slice_get-get_or}
-use Rattle.tva_base.specs.declared.addresses.Address.{Address}
-use Rattle.tva_transfer.specs.declared.transfers.Transfer.{Transfer}
-use Rattle.tva_transfer.specs.Files.{Files, begun, is_due, segment_due, segment_of}
-use Rattle.tva_transfer.specs.Sound.{IsSized, IsSound, has_key, is_due_at}
+use Rattle.tva_transfer.proofs.Common.{◌≡◌, ℕ, ◌<◌, ◌≤◌, ◌&&◌, Bool, true, false, cond, eqb, ltb, List, [], ◌∷◌, ◌++◌, length, get_or, set, Some, None, refl, sym, ap, ◌∙◌, ⊎_elim, arith, position, position_or_len, slice_get, option_map_or, cases_Bool, and_parts, and_right, eqb-true, lt-ltb, le-ltb, cases_lt, false≢true, nat_tests, position_or_len_is, slice_get_past, slice_get_within, slice_get-get_or, Address, Transfer, Files, begun, is_due, segment_due, segment_of, IsSized, IsSound, has_key, is_due_at}
 use Rattle.tva_transfer.proofs.Places.{slice_get-push, slice_get-set}
 
 eqb-sym : (a b : ℕ) → eqb a b ≡ eqb b a

@@ -1,17 +1,5 @@
 -- What a host knows of files, and which act it came from.
-use Rattle.std.proofs.Common.{◌≡◌, ℕ, ◌+◌, ◌≤◌, ◌&&◌, ◌⊎◌, true, false, cond, eqb, List, [], ◌∷◌, ◌++◌, Some, map, refl, sym, ap, subst, inl, inr, ◌∙◌, ⊎_elim, append_assoc, add-zero, zero-add, add_assoc, arith}
-use Rattle.std.specs.List.{Contains, filter, sum_by}
-use Rattle.std.proofs.lemmas.Bool.{and_parts, cases_Bool, cond_both, eqb-true}
-use Rattle.std.proofs.lemmas.List.{append-nil, map-append}
-use Rattle.std.proofs.lemmas.List.Elements.{Contains-push_cases, filter-append}
-use Rattle.std.proofs.lemmas.List.Sums.{sum_by-cons}
-use Rattle.tva_base.specs.declared.addresses.Address.{Address}
-use Rattle.tva_base.specs.declared.packet.Upper.{Upper}
-use Rattle.tva_base.specs.declared.packet.Upper.TheVariants.{Nothing, Data, Ack}
-use Rattle.tva_base.specs.declared.event.DataLine.{DataLine}
-use Rattle.tva_shim.specs.Packets.{PacketData}
-use Rattle.tva_transfer.specs.Files.{Files, Act, Filed, Ticked, Came, after_act, after_upper, files_of, heard, is_of, next_of, range_of, with_range}
-use Rattle.tva_transfer.specs.Couriers.{Follow, ranges_of}
+use Rattle.tva_transfer.proofs.Common.{◌≡◌, ℕ, ◌+◌, ◌≤◌, ◌&&◌, ◌⊎◌, true, false, cond, eqb, List, [], ◌∷◌, ◌++◌, Some, map, refl, sym, ap, subst, inl, inr, ◌∙◌, ⊎_elim, append_assoc, add-zero, zero-add, add_assoc, arith, Contains, filter, sum_by, and_parts, cases_Bool, cond_both, eqb-true, append-nil, map-append, Contains-push_cases, filter-append, sum_by-cons, Address, Upper, Nothing, Data, Ack, DataLine, PacketData, Files, Act, Filed, Ticked, Came, after_act, after_upper, files_of, heard, is_of, next_of, range_of, with_range, Follow, ranges_of}
 use Rattle.tva_transfer.proofs.Acts.{by_last}
 use Rattle.tva_transfer.proofs.Knowing.{behind, next_of-after, next_of-same}
 use Rattle.tva_transfer.proofs.Standing.{files_of-push}

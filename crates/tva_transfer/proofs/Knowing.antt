@@ -1,20 +1,5 @@
 -- What a courier knows of files, after what comes in.
-use Rattle.std.proofs.Common.{◌≡◌, ℕ, ◌+◌, true, false, cond, eqb, ltb, ◌&&◌, List, [], ◌∷◌, Some, None, refl, sym, ap, ◌∙◌, ⊎_elim, add-zero, zero-add, set, length, ◌≤◌}
-use Rattle.std.specs.Map.{lookup}
-use Rattle.std.specs.List.{filter, slice_get, sum_by}
-use Rattle.std.specs.Option.{unwrap_or}
-use Rattle.std.proofs.lemmas.Bool.{cases_Bool, and_parts, eqb-true, eq-eqb}
-use Rattle.std.proofs.lemmas.List.Elements.{filter-append}
-use Rattle.std.proofs.lemmas.List.Sums.{sum_by-append}
-use Rattle.std.proofs.lemmas.List.{set-get_or}
-use Rattle.std.proofs.lemmas.Option.{get_or_from_slice_get, slice_get_past}
-use Rattle.tva_transfer.specs.declared.transfers.Transfer.{Transfer}
-use Rattle.tva_base.specs.declared.addresses.Address.{Address}
-use Rattle.tva_base.specs.declared.packet.Upper.{Upper}
-use Rattle.tva_base.specs.declared.packet.Upper.TheVariants.{Nothing, Data, Ack}
-use Rattle.tva_base.specs.declared.event.DataLine.{DataLine}
-use Rattle.tva_transfer.specs.Files.{Files, after_upper, answer_to, acknowledged, is_more, is_of, next_of, range_of, segment_of, with_range}
-use Rattle.tva_transfer.specs.Stands.{CourierData, Knows, next_kept}
+use Rattle.tva_transfer.proofs.Common.{◌≡◌, ℕ, ◌+◌, true, false, cond, eqb, ltb, ◌&&◌, List, [], ◌∷◌, Some, None, refl, sym, ap, ◌∙◌, ⊎_elim, add-zero, zero-add, set, length, ◌≤◌, lookup, filter, slice_get, sum_by, unwrap_or, cases_Bool, and_parts, eqb-true, eq-eqb, filter-append, sum_by-append, set-get_or, get_or_from_slice_get, slice_get_past, Transfer, Address, Upper, Nothing, Data, Ack, DataLine, Files, after_upper, answer_to, acknowledged, is_more, is_of, next_of, range_of, segment_of, with_range, CourierData, Knows, next_kept}
 
 -- where a range begins is kept by the source and the transfer alone
 pub next_kept-same : (nexts : List ((Address × ℕ) × ℕ)) (source s : Address) (transfer t : ℕ) → (eqb source.0 s.0 && eqb transfer t) ≡ true → next_kept nexts s t ≡ next_kept nexts source transfer

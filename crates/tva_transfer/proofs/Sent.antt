@@ -1,19 +1,6 @@
 -- What a host sends belongs to its transfers, and what it takes as acknowledged came in.
-use Rattle.std.proofs.Common.{◌≡◌, ℕ, ◌+◌, ◌-◌, ◌≤◌, ◌&&◌, ◌⊎◌, true, false, cond, eqb, ltb, min, List, [], ◌∷◌, ◌++◌, Option, Some, None, length, set, refl, sym, ap, subst, inl, inr, ◌∙◌, ⊎_elim, append_assoc, arith}
-use Rattle.std.specs.List.{position, slice_get}
-use Rattle.std.specs.Option.{option_and_then, option_map, option_map_or}
-use Rattle.std.proofs.lemmas.Bool.{and_parts, cases_Bool, eqb-true, eq-eqb, ne_eqb, ltb-true}
-use Rattle.std.proofs.lemmas.List.{append-nil}
+use Rattle.tva_transfer.proofs.Common.{◌≡◌, ℕ, ◌+◌, ◌-◌, ◌≤◌, ◌&&◌, ◌⊎◌, true, false, cond, eqb, ltb, min, List, [], ◌∷◌, ◌++◌, Option, Some, None, length, set, refl, sym, ap, subst, inl, inr, ◌∙◌, ⊎_elim, append_assoc, arith, position, slice_get, option_and_then, option_map, option_map_or, and_parts, cases_Bool, eqb-true, eq-eqb, ne_eqb, ltb-true, append-nil, get_or_from_slice_get, slice_get_within, some_pair_parts, Address, Flow, Upper, Nothing, Data, Ack, DataLine, Transfer, Files, Act, Filed, Ticked, Came, acknowledged, after_act, after_upper, answer_to, begun, files_of, first_segment, heard, is_due, is_more, next_of, number_of, range_of, segment_behind, segment_due, segment_of, with_acked, with_range, sent_by, to_from}
 use Rattle.std.proofs.lemmas.List.Quantifiers.{position-Some}
-use Rattle.std.proofs.lemmas.Option.{get_or_from_slice_get, slice_get_within, some_pair_parts}
-use Rattle.tva_base.specs.declared.addresses.Address.{Address}
-use Rattle.tva_base.specs.declared.packet.Flow.{Flow}
-use Rattle.tva_base.specs.declared.packet.Upper.{Upper}
-use Rattle.tva_base.specs.declared.packet.Upper.TheVariants.{Nothing, Data, Ack}
-use Rattle.tva_base.specs.declared.event.DataLine.{DataLine}
-use Rattle.tva_transfer.specs.declared.transfers.Transfer.{Transfer}
-use Rattle.tva_transfer.specs.Files.{Files, Act, Filed, Ticked, Came, acknowledged, after_act, after_upper, answer_to, begun, files_of, first_segment, heard, is_due, is_more, next_of, number_of, range_of, segment_behind, segment_due, segment_of, with_acked, with_range}
-use Rattle.tva_transfer.specs.Couriers.{sent_by, to_from}
 use Rattle.tva_transfer.proofs.Acts.{by_last}
 use Rattle.tva_transfer.proofs.History.{HasCome, come_before, come_now}
 use Rattle.tva_transfer.proofs.Knowing.{acknowledged-more}

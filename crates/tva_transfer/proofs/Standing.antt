@@ -1,13 +1,8 @@
 -- For which calls and acts a courier stands, after one more.
-use Rattle.std.proofs.Common.{◌≡◌, ℕ, List, [], ◌∷◌, ◌++◌, Result, Ok, Err, sym, ap, subst, ◌∙◌}
+use Rattle.tva_transfer.proofs.Common.{◌≡◌, ℕ, List, [], ◌∷◌, ◌++◌, Result, Ok, Err, sym, ap, subst, ◌∙◌, fold-append, Address, Call, Files, Act, Filed, after_act, begun, files_of, next_of, no_files, CourierData, Knows, StandsFor, known, next_kept}
 use Rattle.std.specs.Result.{OnErr}
-use Rattle.std.proofs.lemmas.List.Sums.{fold-append}
-use Rattle.tva_base.specs.declared.addresses.Address.{Address}
 use Rattle.tva_base.specs.declared.plan.HostPlan.{HostPlan}
-use Rattle.tva_host.specs.Calls.{Call}
 use Rattle.tva_host.specs.Stands as host
-use Rattle.tva_transfer.specs.Files.{Files, Act, Filed, after_act, begun, files_of, next_of, no_files}
-use Rattle.tva_transfer.specs.Stands.{CourierData, Knows, StandsFor, known, next_kept}
 
 pub files_of-push : (home : Address) (acts : List Act) (a : Act) → files_of home (acts ++ a ∷ []) ≡ after_act home (files_of home acts) a
 files_of-push home acts a = fold-append (after_act home) no_files acts (a ∷ [])

@@ -1,18 +1,9 @@
 -- Lanes, the table that finds them and the one that says which has the next input.
-use Rattle.std.proofs.Common.{eqb-true, ◌≡◌, ℕ, zero, suc, ◌+◌, ◌<◌, ◌≤◌, List, [], ◌∷◌, ◌++◌, length, map, get_or, set, Option, Some, None, true, false, refl, sym, subst, ◌∙◌, ap, ap₂, arith, inl, inr, ◌⊎◌}
-use Rattle.std.specs.Prelude.{insert, ◌==◌, ◌||◌, ◌^◌, ◌*◌}
-use Rattle.std.specs.List.{AllByRecursion, IsDistinct, list_any}
+use Rattle.tva_waiting.proofs.Common.{eqb-true, ◌≡◌, ℕ, zero, suc, ◌+◌, ◌<◌, ◌≤◌, List, [], ◌∷◌, ◌++◌, length, map, get_or, set, Option, Some, None, true, false, refl, sym, subst, ◌∙◌, ap, ap₂, arith, inl, inr, ◌⊎◌, insert, ◌==◌, ◌||◌, ◌^◌, AllByRecursion, list_any, ne_eqb, cases_Bool, cases_eq, cond-true, cond-false, get_or-set_other, get_or-set_same, length-map, place_in, IsLeastPlace, MayPrecede, IsInOrder, precedes, put_in, each-append, each-weaker, Input, input_source, input_time, AreQueues, IsNextIn, IsQueue, Queue, all_in, head_at, head_of, key_of, never, no_queue}
+use Rattle.std.specs.Prelude.{◌*◌}
+use Rattle.std.specs.List.{IsDistinct}
 use Rattle.std.specs.Option.{option_map}
-use Rattle.std.proofs.lemmas.Bool.{ne_eqb, cases_Bool, cases_eq, cond-true, cond-false}
-use Rattle.std.proofs.lemmas.List.{get_or-set_other, get_or-set_same, length-map}
 use Rattle.std.proofs.lemmas.Map.Steps.{length-le_from_distinct_below}
-use Rattle.tva_index.specs.KeyRing.{place_in}
-use Rattle.tva_index.specs.Lowest.{IsLeastPlace}
-use Rattle.tva_log.specs.Joins.{MayPrecede, IsInOrder, precedes, put_in}
-use Rattle.tva_log.proofs.Joins.{each-append, each-weaker}
-use Rattle.tva_log.specs.declared.kinds.Input.{Input}
-use Rattle.tva_log.specs.Entries.{input_source, input_time}
-use Rattle.tva_waiting.specs.Queues.{AreQueues, IsNextIn, IsQueue, Queue, all_in, head_at, head_of, key_of, never, no_queue}
 
 -- ## what stands before others
 

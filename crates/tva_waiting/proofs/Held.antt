@@ -1,25 +1,9 @@
 -- The queues that lanes stand for.
-use Rattle.std.proofs.Common.{◌≡◌, ℕ, zero, suc, ◌+◌, ◌-◌, ◌<◌, ◌≤◌, List, [], ◌∷◌, ◌++◌, length, map, get_or, set, take, Some, None, true, false, refl, sym, subst, ◌∙◌, ap, ap₂, arith, add-one, inl, inr, Bool, ◌⊎◌, deque_len}
-use Rattle.std.specs.Prelude.{insert, not, ◌==◌, ◌^◌}
-use Rattle.std.specs.List.{AllByRecursion}
-use Rattle.std.proofs.lemmas.Bool.{eq-eqb, ne_eqb, cases_eq}
-use Rattle.std.proofs.lemmas.List.{get_or-map, get_or-set_other, get_or-set_same, length-append, length-map, length-set, map-append, map-set, set-get_or}
-use Rattle.std.proofs.Math.Seq.{map-set_same}
-use Rattle.tva_index.specs.KeyRing.{place_in, ring}
+use Rattle.tva_waiting.proofs.Common.{◌≡◌, ℕ, zero, suc, ◌+◌, ◌-◌, ◌<◌, ◌≤◌, List, [], ◌∷◌, ◌++◌, length, map, get_or, set, take, Some, None, true, false, refl, sym, subst, ◌∙◌, ap, ap₂, arith, add-one, inl, inr, Bool, ◌⊎◌, deque_len, insert, not, ◌==◌, ◌^◌, AllByRecursion, eq-eqb, ne_eqb, cases_eq, get_or-map, get_or-set_other, get_or-set_same, length-append, length-map, length-set, map-append, map-set, set-get_or, map-set_same, place_in, ring, IsInOrder, put_in, sorted, Input, Arrival, FromTrace, input_source, input_time, each-put_in, arrived, first_time, is_row_first, AreQueues, IsNextIn, IsQueue, Queue, all_in, head_at, head_of, key_of, never, no_queue, AreWaiting, HaveGiven, Hold, IsLaneOf, flight_source, flight_time, lane_queue, queues_in, queues_of, row_in, rows_queue, sources_of, turn_source, turn_time, waiting_in, Lane, Lanes}
 use Rattle.tva_rows.specs.declared.rows.RowWhat.{RowWhat}
 use Rattle.tva_rows.specs.Brief.{Grows, IsWhatHeld, what_in}
 use Rattle.tva_rows.proofs.Packing.{held-grown, what-grown}
-use Rattle.tva_log.specs.Joins.{IsInOrder, put_in, sorted}
-use Rattle.tva_log.specs.declared.kinds.Input.{Input}
-use Rattle.tva_log.specs.declared.kinds.Input.TheVariants.{Arrival, FromTrace}
-use Rattle.tva_log.specs.declared.kinds.Sending.{Sending}
-use Rattle.tva_log.specs.Entries.{input_source, input_time}
-use Rattle.tva_log.proofs.Putting.{each-put_in}
-use Rattle.tva_waiting.specs.Inputs.{arrived, first_time, is_row_first}
-use Rattle.tva_waiting.specs.Queues.{AreQueues, IsNextIn, IsQueue, Queue, all_in, head_at, head_of, key_of, never, no_queue}
-use Rattle.tva_waiting.specs.Lanes.{AreWaiting, HaveGiven, Hold, IsLaneOf, flight_source, flight_time, lane_queue, queues_in, queues_of, row_in, rows_queue, sources_of, turn_source, turn_time, waiting_in}
-use Rattle.tva_waiting.specs.declared.lanes.Lane.{Lane}
-use Rattle.tva_waiting.specs.declared.lanes.Lanes.{Lanes}
+use Rattle.tva_run.specs.declared.kinds.Sending.{Sending}
 use Rattle.tva_waiting.specs.declared.lanes.Turn.{Turn}
 use Rattle.tva_waiting.proofs.Finding.{all_in-end, found, head-insert, head_at-end, heads-set, in_order_held, in_range, map-put_in, new_key, not_found, queues_end}
 use Rattle.tva_waiting.proofs.Queues.{first_is, first_of, not_of, put_one, queue_at, queues_put, queues_taken, taken_one}

@@ -1,19 +1,7 @@
 -- Queues of several sources, and the one list in order that they make.
-use Rattle.std.proofs.Common.{◌≡◌, ℕ, zero, suc, ◌<◌, ◌≤◌, List, [], ◌∷◌, ◌++◌, length, get_or, set, true, false, refl, sym, subst, ◌∙◌, ap, ap₂, arith, inl, inr, ◌⊎◌}
-use Rattle.std.specs.Prelude.{nat_lt, ◌==◌, ◌||◌, ◌&&◌, ◌^◌}
-use Rattle.std.specs.List.{AllByRecursion}
-use Rattle.std.proofs.lemmas.Bool.{eq-eqb, ne_eqb, cases_Bool, cases_eq, cond-true, cond-false}
+use Rattle.tva_waiting.proofs.Common.{◌≡◌, ℕ, zero, suc, ◌<◌, ◌≤◌, List, [], ◌∷◌, ◌++◌, length, get_or, set, true, false, refl, sym, subst, ◌∙◌, ap, ap₂, arith, inl, inr, ◌⊎◌, nat_lt, ◌==◌, ◌||◌, ◌&&◌, ◌^◌, AllByRecursion, eq-eqb, ne_eqb, cases_Bool, cases_eq, cond-true, cond-false, append-nil, get_or-set_same, length-set, MayPrecede, IsInOrder, from_source, precedes, put_in, sorted, NeverFalls, each-append, each-weaker, filter-true, filter-false, filter-all, filter-none, join_unique, before_yes, each-put_all, each-put_in, each_from_sources, in_order-put_all, in_order-put_in, source-put_all, strictly_trans, Input, input_source, input_time, Arrival, FromTrace, first_time, is_row_first, AreQueues, IsNextIn, IsQueue, Queue, all_in}
 use Rattle.std.proofs.lemmas.Bool.Decides.{nat_tests}
-use Rattle.std.proofs.lemmas.List.{append-nil, get_or-set_same, length-set}
 use Rattle.std.proofs.lemmas.List.Elements.{filter-append}
-use Rattle.tva_log.specs.Joins.{MayPrecede, IsInOrder, from_source, precedes, put_in, sorted, NeverFalls}
-use Rattle.tva_log.proofs.Joins.{each-append, each-weaker, filter-true, filter-false, filter-all, filter-none, join_unique}
-use Rattle.tva_log.proofs.Putting.{before_yes, each-put_all, each-put_in, each_from_sources, in_order-put_all, in_order-put_in, source-put_all, strictly_trans}
-use Rattle.tva_log.specs.declared.kinds.Input.{Input}
-use Rattle.tva_log.specs.Entries.{input_source, input_time}
-use Rattle.tva_log.specs.declared.kinds.Input.TheVariants.{Arrival, FromTrace}
-use Rattle.tva_waiting.specs.Inputs.{first_time, is_row_first}
-use Rattle.tva_waiting.specs.Queues.{AreQueues, IsNextIn, IsQueue, Queue, all_in}
 
 -- ## one source of a list in order
 

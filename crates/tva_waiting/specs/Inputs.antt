@@ -1,10 +1,10 @@
 -- Crate: what memory holds of the inputs that a node was given, and when the next of those that wait comes.
 use Rattle.std.specs.Prelude.{◌≡◌, ℕ, List, [], ◌∷◌, length, Bool, true, false, Option, Some, None}
-use Rattle.tva_log.specs.declared.kinds.Input.{Input}
-use Rattle.tva_log.specs.declared.kinds.Input.TheVariants.{FromTrace, Arrival}
-use Rattle.tva_log.specs.declared.kinds.Sending.{Sending}
-use Rattle.tva_log.specs.Entries.{input_time}
-use Rattle.tva_past.specs.Kept.{KeptList}
+use Rattle.tva_run.specs.declared.kinds.Input.{Input}
+use Rattle.tva_run.specs.declared.kinds.Input.TheVariants.{FromTrace, Arrival}
+use Rattle.tva_run.specs.declared.kinds.Sending.{Sending}
+use Rattle.tva_run.specs.Entries.{input_time}
+use Rattle.tva_waiting.specs.Kept.{KeptList}
 use Rattle.tva_waiting.specs.declared.memory.Memory.{Memory}
 use Rattle.tva_waiting.specs.declared.memory.Memory.TheVariants as memory
 

@@ -4,11 +4,11 @@ use Rattle.std.specs.List.{AllByRecursion}
 use Rattle.std.specs.VecDeque.{deque_capacity, deque_len}
 use Rattle.tva_index.specs.KeyRing.{ring}
 use Rattle.tva_rows.specs.Brief.{IsWhatHeld, what_in}
-use Rattle.tva_log.specs.Joins.{sorted}
-use Rattle.tva_log.specs.declared.kinds.Input.{Input}
-use Rattle.tva_log.specs.declared.kinds.Input.TheVariants.{FromTrace}
-use Rattle.tva_log.specs.declared.kinds.Sending.{Sending}
-use Rattle.tva_log.specs.Entries.{input_source, input_time}
+use Rattle.tva_run.specs.Joins.{sorted}
+use Rattle.tva_run.specs.declared.kinds.Input.{Input}
+use Rattle.tva_run.specs.declared.kinds.Input.TheVariants.{FromTrace}
+use Rattle.tva_run.specs.declared.kinds.Sending.{Sending}
+use Rattle.tva_run.specs.Entries.{input_source, input_time}
 use Rattle.tva_waiting.specs.Inputs.{arrived}
 use Rattle.tva_waiting.specs.Queues.{AreQueues, Queue, all_in, head_at, never}
 use Rattle.tva_waiting.specs.declared.lanes.Lane.{Lane}

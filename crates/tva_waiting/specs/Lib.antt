@@ -3,3 +3,5 @@ pub mod Flights
 pub mod Noted
 pub mod Queues
 pub mod Lanes
+pub mod Kept
+pub mod Behind

@@ -1,6 +1,6 @@
 -- Kit: of what an input is noted that memory doesn't hold.
-use Rattle.tva_log.specs.declared.kinds.Input.{Input}
-use Rattle.tva_log.specs.declared.kinds.Input.TheVariants.{FromTrace}
+use Rattle.tva_run.specs.declared.kinds.Input.{Input}
+use Rattle.tva_run.specs.declared.kinds.Input.TheVariants.{FromTrace}
 use Rattle.std.specs.Prelude.{slice_index_or}
 use Rattle.tva_rows.specs.declared.rows.Row.{Row}
 use Rattle.tva_rows.specs.declared.rows.RowWhat.TheVariants as what

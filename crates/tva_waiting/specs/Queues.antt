@@ -1,9 +1,9 @@
 -- Kit: inputs that wait by their source, those of each in their order.
 use Rattle.std.specs.Prelude.{◌≡◌, ◌<◌, ◌+◌, ◌-◌, ◌*◌, ◌^◌, ℕ, List, [], ◌∷◌, ◌++◌, get_or}
 use Rattle.std.specs.List.{AllByRecursion}
-use Rattle.tva_log.specs.Joins.{IsInOrder, MayPrecede}
-use Rattle.tva_log.specs.declared.kinds.Input.{Input}
-use Rattle.tva_log.specs.Entries.{input_source, input_time}
+use Rattle.tva_run.specs.Joins.{IsInOrder, MayPrecede}
+use Rattle.tva_run.specs.declared.kinds.Input.{Input}
+use Rattle.tva_run.specs.Entries.{input_source, input_time}
 
 -- a source, and what waits of it
 pub record Queue : Type 0 where

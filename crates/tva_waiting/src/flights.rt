@@ -6,8 +6,8 @@ ghost use Rattle.tva_waiting.specs.Flights.{packet_of};
 use std::alloc::{AllocError, Global};
 use std::marker::Model;
 use tva_base::{Flow, PacketId, Time, Upper};
-use tva_log::Sending;
 use tva_port::Hand;
+use tva_run::Sending;
 use tva_shim::{Carried, Packet};
 
 /// All that a packet without a shim says.
@@ -111,7 +111,7 @@ pub struct Flight {
 }
 
 impl Model for Flight {
-    ghost use Rattle.tva_log.specs.declared.kinds.Sending.{Sending};
+    ghost use Rattle.tva_run.specs.declared.kinds.Sending.{Sending};
 
     ghost Value = { Sending };
 

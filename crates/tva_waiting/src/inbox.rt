@@ -1,18 +1,18 @@
 // The inputs that a node was given.
 ghost use Rattle.std.specs.Prelude.{◌≡◌, ◌<◌, ◌++◌, ◌∷◌, [], length, slice_index_or, OnErr, OnOk};
 ghost use Rattle.tva_rows.specs.declared.rows.Row.{Row};
-ghost use Rattle.tva_log.specs.declared.kinds.Input.TheVariants.{FromTrace};
-ghost use Rattle.tva_past.specs.Kept.{forgotten, held, nothing, with_more};
+ghost use Rattle.tva_run.specs.declared.kinds.Input.TheVariants.{FromTrace};
+ghost use Rattle.tva_waiting.specs.Kept.{forgotten, held, nothing, with_more};
 ghost use Rattle.tva_waiting.specs.Inputs.{HoldsInputs, arrived};
 
+use crate::Kept;
 use crate::flights::Flight;
 use crate::memory::Memory;
 use std::alloc::{AllocError, Global};
 use std::marker::Model;
 use std::snapshot::Snapshot;
-use tva_log::{Input, Sending};
-use tva_past::Kept;
 use tva_rows::PackedRows;
+use tva_run::{Input, Sending};
 
 /// Of what an input is noted.
 #[derive(Drop)]
@@ -28,7 +28,7 @@ pub struct Noted {
 }
 
 impl Model for Noted {
-    ghost use Rattle.tva_log.specs.declared.kinds.Input.{Input};
+    ghost use Rattle.tva_run.specs.declared.kinds.Input.{Input};
 
     ghost Value = { Input };
 
@@ -47,8 +47,8 @@ pub struct Inbox {
 
 impl Model for Inbox {
     ghost use Rattle.std.specs.Prelude.{◌≡◌, ◌++◌, length};
-    ghost use Rattle.tva_log.specs.declared.kinds.Input.{Input};
-    ghost use Rattle.tva_past.specs.Kept.{KeptList};
+    ghost use Rattle.tva_run.specs.declared.kinds.Input.{Input};
+    ghost use Rattle.tva_waiting.specs.Kept.{KeptList};
 
     ghost Value = { KeptList Input };
 

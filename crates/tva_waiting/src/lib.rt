@@ -7,11 +7,14 @@
 
 mod flights;
 mod inbox;
+mod kept;
 mod lanes;
 mod memory;
+mod past;
 mod waiting;
 
 pub use flights::Flight;
 pub use inbox::Inbox;
+pub use kept::Kept;
 pub use memory::Memory;
 pub use waiting::Waiting;

@@ -1,8 +1,8 @@
 // The inputs of a node that are not taken yet, in the order of their taking.
 ghost use Rattle.std.specs.Prelude.{◌≡◌, ◌≢◌, ◌<◌, ◌∷◌, ◌++◌, [], length, slice_index_or, true, false, IfOk, OnOk, OnErr};
-ghost use Rattle.tva_log.specs.Joins.{put_in};
-ghost use Rattle.tva_log.specs.Entries.{input_source, input_time};
-ghost use Rattle.tva_log.specs.declared.kinds.Input.TheVariants.{FromTrace};
+ghost use Rattle.tva_run.specs.Joins.{put_in};
+ghost use Rattle.tva_run.specs.Entries.{input_source, input_time};
+ghost use Rattle.tva_run.specs.declared.kinds.Input.TheVariants.{FromTrace};
 ghost use Rattle.tva_rows.specs.declared.rows.Row.{Row};
 ghost use Rattle.tva_waiting.specs.Inputs.{HoldsInputs, arrived, first_time, is_row_first};
 
@@ -23,7 +23,7 @@ pub struct Waiting {
 
 impl Model for Waiting {
     ghost use Rattle.std.specs.Prelude.{List};
-    ghost use Rattle.tva_log.specs.declared.kinds.Input.{Input};
+    ghost use Rattle.tva_run.specs.declared.kinds.Input.{Input};
     ghost use Rattle.tva_waiting.specs.Lanes.{AreWaiting, waiting_in};
 
     ghost Value = { List Input };

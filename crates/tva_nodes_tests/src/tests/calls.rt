@@ -11,10 +11,10 @@ use std::test::Fail;
 use std::thread::Threads;
 use tva_audit::{AuditError, Audited, RouterSum, audit, sums};
 use tva_base::{Address, Flow, Happened, Listed, Name, PacketId, RouterPlan, Time};
-use tva_log::Input;
 use tva_node::Node;
 use tva_plan::NodePlan;
 use tva_rows::{Row, RowWhat};
+use tva_run::Input;
 use tva_shim::{Carried, Packet};
 use tva_trace::read_trace;
 

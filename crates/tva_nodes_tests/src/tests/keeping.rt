@@ -4,9 +4,9 @@ use std::alloc::Global;
 use std::sync::atomic::{AtomicU64, Ordering};
 use std::test::Fail;
 use std::thread::Threads;
-use tva_log::{Input, Sending};
 use tva_net::{Memory, Net, NetError, Node, Window};
 use tva_outside::Gate;
+use tva_run::{Input, Sending};
 
 // The walk's network with as many events as may be, and rows of a file of one segment and of ticks.
 const FILES: &str =

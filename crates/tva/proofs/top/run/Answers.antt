@@ -1,14 +1,7 @@
-use Rattle.std.proofs.Common.{◌≡◌, ◌∙◌, None, Some, subst}
-use Rattle.tva_commands.specs.Given.{WereAsked, files_of}
-use Rattle.tva_outside.specs.Faults.{Rose}
-use Rattle.tva_commands.specs.Answer.{HasFound, WroteAll, WroteLines, WrotePart}
-use Rattle.tva_commands.specs.Asked.{asked}
-use Rattle.tva_commands.specs.Command.{texts}
-use Rattle.tva_commands.specs.Expected.{refuses}
-use Rattle.tva.specs.Wanted.{Settles, SettlesRefusal}
-use Rattle.tva_commands.specs.declared.status.Status.TheVariants.{Done, Found as Differs, Usage, ReadFault, TooLarge, BadConfig, BadTrace, EventLimit, BadReport}
+use Rattle.tva.proofs.Common.{◌≡◌, ◌∙◌, None, Some, subst, WereAsked, files_of, Rose, HasFound, WroteAll, WroteLines, WrotePart, asked, texts, refuses, Settles, SettlesRefusal, Done, Usage, ReadFault, TooLarge, BadConfig, BadTrace, EventLimit, BadReport}
+use Rattle.tva.specs.declared.status.Status.TheVariants.{Found as Differs}
 use Rattle.tva.proofs.Fronts.{at_status, missing_held, of_no_words, of_words, part_of_answer}
-use Rattle.tva_commands.proofs.Given.{told_none}
+use Rattle.tva.proofs.Given.{told_none}
 use Rattle.tva.proofs.Settled.{refusal_of_answer, settles_of_answer}
 use Rattle.tva.proofs.Wants.{kept_of_wanted, honest_of_wanted, files_of_wanted, below_of_wanted, one_end_of_wanted}
 use Rattle.tva.proofs.top.run.Goals as goal

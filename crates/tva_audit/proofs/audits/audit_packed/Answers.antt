@@ -1,8 +1,4 @@
-use Rattle.std.proofs.Common.{Ok, Err, sym, subst, ap, ◌∙◌, arith}
-use Rattle.tva_report.specs.Ahead.{bad_ahead}
-use Rattle.tva_audit.specs.declared.audits.AuditError.{AuditError}
-use Rattle.tva_audit.specs.declared.audits.AuditError.TheVariants.{OutOfMemory}
-use Rattle.tva_audit.specs.Audit.{IsAudit}
+use Rattle.tva_audit.proofs.Common.{Ok, Err, sym, subst, ap, ◌∙◌, arith, bad_ahead, AuditError, OutOfMemory, IsAudit}
 use Rattle.tva_audit.proofs.Worked.{IsNext, begun, goes_on, on}
 use Rattle.tva_audit.proofs.Windowed.{Came, FollowedBy, bad_first, ends, few_events, kept, ready, refused}
 use Rattle.tva_audit.proofs.audits.audit_packed.Given as given

@@ -1,4 +1,4 @@
-use Rattle.std.proofs.Common.{◌-◌}
+use Rattle.tva_audit.proofs.Common.{◌-◌}
 use Rattle.tva_audit.proofs.Windowed.{FollowedBy}
 use Rattle.tva_audit.proofs.Worked.{IsAfoot}
 use Rattle.tva_audit.proofs.audits.audit_packed.Given as goal

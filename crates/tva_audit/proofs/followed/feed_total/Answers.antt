@@ -1,5 +1,4 @@
-use Rattle.std.proofs.Common.{List, ℕ, ◌++◌, ◌∷◌, [], length, sym, subst, ap, ◌∙◌}
-use Rattle.tva_lines.specs.Lines.{text_of_totals}
+use Rattle.tva_audit.proofs.Common.{List, ℕ, ◌++◌, ◌∷◌, [], length, sym, subst, ap, ◌∙◌, text_of_totals}
 use Rattle.tva_report.specs.Compared as compared
 use Rattle.tva_audit.proofs.Texts.{IsText, one_line}
 use Rattle.tva_audit.proofs.followed.feed_total.Goals as goal

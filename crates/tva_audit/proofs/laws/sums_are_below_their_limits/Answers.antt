@@ -1,5 +1,5 @@
-use Rattle.std.proofs.Common.{◌+◌}
-use Rattle.tva_promises.proofs.Runs.{read_run_keeps, run_keeps}
+use Rattle.tva_audit.proofs.Common.{◌+◌}
+use Rattle.tva_laws.proofs.Runs.{read_run_keeps, run_keeps}
 use Rattle.tva_audit.proofs.Budgets.{sums_below}
 use Rattle.tva_audit.proofs.laws.sums_are_below_their_limits.Goals as goal
 

@@ -1,4 +1,4 @@
-use Rattle.std.proofs.Common.{◌∙◌}
+use Rattle.tva_audit.proofs.Common.{◌∙◌}
 use Rattle.tva_audit.proofs.Texts.{each_more, put_more}
 use Rattle.tva_audit.proofs.lines.put_lines.Goals as goal
 

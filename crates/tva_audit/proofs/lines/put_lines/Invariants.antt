@@ -1,7 +1,4 @@
-use Rattle.std.proofs.Common.{◌≡◌, take, All}
-use Rattle.tva_base.specs.Printable.{IsLine}
-use Rattle.tva_run.specs.Report.{lines_of}
-use Rattle.tva_lines.specs.Lines.{text_of_event}
+use Rattle.tva_audit.proofs.Common.{◌≡◌, take, All, IsLine, lines_of, text_of_event}
 use Rattle.tva_audit.proofs.lines.put_lines.Given as goal
 
 -- the lines of the events up to here

@@ -1,6 +1,4 @@
-use Rattle.std.proofs.Common.{List, All, ◌++◌, sym, subst}
-use Rattle.tva_base.specs.declared.event.Event.{Event}
-use Rattle.tva_lines.specs.Lines.{HasEvent}
+use Rattle.tva_audit.proofs.Common.{List, All, ◌++◌, sym, subst, Event, HasEvent}
 use Rattle.tva_audit.proofs.Worked.{comes, each_shown, named}
 use Rattle.tva_audit.proofs.lines.step_and_put.Goals as goal
 

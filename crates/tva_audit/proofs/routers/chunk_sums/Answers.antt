@@ -1,7 +1,4 @@
-use Rattle.std.proofs.Common.{sym, ◌∙◌, ap}
-use Rattle.std.specs.declared.alloc.Global.{Global}
-use Rattle.std.specs.declared.vec.Vec.{Vec}
-use Rattle.tva_audit.specs.declared.routers.RouterSum.{RouterSum}
+use Rattle.tva_audit.proofs.Common.{sym, ◌∙◌, ap, Global, Vec, RouterSum}
 use Rattle.tva_audit.proofs.Parts.{none_more, one_more}
 use Rattle.tva_audit.proofs.routers.chunk_sums.Goals as goal
 use Rattle.tva_audit.proofs.routers.chunk_sums.Goals.{in-Some+in_ok-push, in_default}

@@ -1,5 +1,4 @@
-use Rattle.std.proofs.Common.{◌≡◌, take}
-use Rattle.tva_audit.specs.Sums.{sums_told}
+use Rattle.tva_audit.proofs.Common.{◌≡◌, take, sums_told}
 use Rattle.tva_audit.proofs.routers.chunk_sums.Given as goal
 
 -- the sums of the routers up to here

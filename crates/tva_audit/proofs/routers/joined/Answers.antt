@@ -1,11 +1,4 @@
-use Rattle.std.proofs.Common.{◌≡◌, ℕ, ◌*◌, List, ◌++◌, length, take, Result, sym, ◌∙◌, ap, subst, arith}
-use Rattle.std.specs.Prelude.{IfOk}
-use Rattle.std.specs.Fork.{slice_chunk}
-use Rattle.std.specs.declared.alloc.AllocError.{AllocError}
-use Rattle.std.specs.declared.alloc.Global.{Global}
-use Rattle.std.specs.declared.vec.Vec.{Vec}
-use Rattle.tva_audit.specs.declared.routers.RouterSum.{RouterSum}
-use Rattle.tva_audit.specs.Sums.{sums_told}
+use Rattle.tva_audit.proofs.Common.{◌≡◌, ℕ, ◌*◌, List, ◌++◌, length, take, Result, sym, ◌∙◌, ap, subst, arith, IfOk, slice_chunk, AllocError, Global, Vec, RouterSum, sums_told}
 use Rattle.tva_audit.proofs.Parts.{no_chunk, part_told}
 use Rattle.tva_audit.proofs.routers.joined.Goals as goal
 

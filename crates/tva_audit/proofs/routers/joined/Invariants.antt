@@ -1,7 +1,4 @@
-use Rattle.std.proofs.Common.{◌≡◌, ℕ, ◌*◌, List, take}
-use Rattle.tva_node.specs.States.{NodeState}
-use Rattle.tva_audit.specs.Chunks.{AreParts}
-use Rattle.tva_audit.specs.Sums.{sums_told}
+use Rattle.tva_audit.proofs.Common.{◌≡◌, ℕ, ◌*◌, List, take, NodeState, AreParts, sums_told}
 use Rattle.tva_audit.proofs.routers.joined.Given as goal
 
 -- the sums of the chunks up to here

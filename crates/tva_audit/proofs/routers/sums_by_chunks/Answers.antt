@@ -1,7 +1,4 @@
-use Rattle.std.proofs.Common.{rules, ◌≡◌, List, ◌∙◌, subst}
-use Rattle.std.specs.Prelude.{IfOk, slice_index_or}
-use Rattle.tva_node.specs.States.{NodeState}
-use Rattle.tva_audit.specs.Sums.{sums_told}
+use Rattle.tva_audit.proofs.Common.{rules, ◌≡◌, List, ◌∙◌, subst, IfOk, slice_index_or, NodeState, sums_told}
 use Rattle.tva_audit.proofs.Parts.{joined_told}
 use denote.Param.Send.{sendable}
 use Rattle.std.proofs.Crossing.{crosses}

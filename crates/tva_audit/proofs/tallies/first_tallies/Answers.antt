@@ -1,4 +1,4 @@
-use Rattle.std.proofs.Common.{arith}
+use Rattle.tva_audit.proofs.Common.{arith}
 use Rattle.tva_audit.proofs.Tallied.{fresh_all, fresh_more, fresh_none}
 use Rattle.tva_audit.proofs.tallies.first_tallies.Goals as goal
 

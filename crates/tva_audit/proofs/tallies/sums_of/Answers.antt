@@ -1,16 +1,4 @@
-use Rattle.std.proofs.Common.{◌≡◌, ◌<◌, ℕ, List, Option, get_or, length, sym, ap, ◌∙◌, subst, arith}
-use Rattle.std.specs.declared.alloc.Global.{Global}
-use Rattle.std.specs.declared.vec.Vec.{Vec}
-use Rattle.tva_plan.specs.declared.config.NodePlan.{NodePlan}
-use Rattle.tva_log.specs.Joins.{from_source}
-use Rattle.tva_node.specs.States.{restarts_in}
-use Rattle.tva_run.specs.Report.{event_node}
-use Rattle.tva_sums.specs.declared.sums.Tally.{Tally}
-use Rattle.tva_sums.specs.Charged.{charges_in}
-use Rattle.tva_sums.specs.Table.{StandsFor}
-use Rattle.tva_audit.specs.declared.routers.RouterSum.{RouterSum}
-use Rattle.tva_audit.specs.Sums.{sum_told}
-use Rattle.tva_audit.specs.Tallies.{sums_among}
+use Rattle.tva_audit.proofs.Common.{◌≡◌, ◌<◌, ℕ, List, Option, get_or, length, sym, ap, ◌∙◌, subst, arith, Global, Vec, NodePlan, from_source, restarts_in, event_node, Tally, charges_in, StandsFor, RouterSum, sum_told, sums_among}
 use Rattle.tva_audit.proofs.Tallied.{none_pushed, one_pushed, picked_more, stands_at}
 use Rattle.tva_audit.proofs.tallies.sums_of.Goals as goal
 use Rattle.tva_audit.proofs.tallies.sums_of.Goals.{in-Some+in_ok-push, in_default}

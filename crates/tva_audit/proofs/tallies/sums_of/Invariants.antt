@@ -1,10 +1,4 @@
-use Rattle.std.proofs.Common.{◌≡◌, List, ◌++◌, drop}
-use Rattle.tva_base.specs.declared.event.Event.{Event}
-use Rattle.tva_plan.specs.Wiring.{picked}
-use Rattle.tva_log.specs.Joins.{from_source}
-use Rattle.tva_run.specs.Report.{event_node}
-use Rattle.tva_audit.specs.Sums.{sum_told}
-use Rattle.tva_audit.specs.Tallies.{AreTallied, sums_among}
+use Rattle.tva_audit.proofs.Common.{◌≡◌, List, ◌++◌, drop, Event, picked, from_source, event_node, sum_told, AreTallied, sums_among}
 use Rattle.tva_audit.proofs.tallies.sums_of.Given as goal
 
 -- the sums of the routers up to here; those of the others are still to come

@@ -1,7 +1,4 @@
-use Rattle.std.proofs.Common.{◌≡◌, ◌≤◌, ◌+◌, ◌-◌, ℕ, List, ◌++◌, length, take, sym, ap, ◌∙◌, subst, arith, append_assoc, append-nil}
-use Rattle.std.proofs.lemmas.List.{take_all, take_more}
-use Rattle.tva_base.specs.declared.event.Event.{Event}
-use Rattle.tva_audit.specs.Tallies.{AreReady, AreTallied}
+use Rattle.tva_audit.proofs.Common.{◌≡◌, ◌≤◌, ◌+◌, ◌-◌, ℕ, List, ◌++◌, length, take, sym, ap, ◌∙◌, subst, arith, append_assoc, append-nil, take_all, take_more, Event, AreReady, AreTallied}
 use Rattle.tva_audit.proofs.tallies.tell_each.Goals as goal
 
 pub loop-event-init : goal.loop-event-init

@@ -1,6 +1,4 @@
-use Rattle.std.proofs.Common.{◌-◌, List, ◌++◌, length, take}
-use Rattle.tva_base.specs.declared.event.Event.{Event}
-use Rattle.tva_audit.specs.Tallies.{AreReady, AreTallied}
+use Rattle.tva_audit.proofs.Common.{◌-◌, List, ◌++◌, length, take, Event, AreReady, AreTallied}
 use Rattle.tva_audit.proofs.tallies.tell_each.Given as goal
 
 -- the tallies stand for the events up to here, and there is room for the others

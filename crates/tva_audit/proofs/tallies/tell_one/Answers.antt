@@ -1,10 +1,4 @@
-use Rattle.std.proofs.Common.{◌≡◌, ◌<◌, ℕ, List, ◌++◌, ◌∷◌, [], length, get_or, set, sym, subst, arith}
-use Rattle.tva_base.specs.declared.packet.Time.{Time}
-use Rattle.tva_log.specs.Joins.{from_source}
-use Rattle.tva_run.specs.Report.{event_node}
-use Rattle.tva_sums.specs.Charged.{charges_in}
-use Rattle.tva_sums.specs.Table.{StandsFor}
-use Rattle.tva_audit.specs.Tallies.{AreTallied, restarts_at}
+use Rattle.tva_audit.proofs.Common.{◌≡◌, ◌<◌, ℕ, List, ◌++◌, ◌∷◌, [], length, get_or, set, sym, subst, arith, Time, from_source, event_node, charges_in, StandsFor, AreTallied, restarts_at}
 use Rattle.tva_audit.proofs.Tallied.{ready_after, told_after}
 use Rattle.tva_audit.proofs.tallies.tell_one.Goals as goal
 

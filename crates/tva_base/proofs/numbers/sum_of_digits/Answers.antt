@@ -1,4 +1,4 @@
-use Rattle.std.proofs.Common.{arith}
+use Rattle.tva_base.proofs.Common.{arith}
 use Rattle.tva_base.proofs.Digits.{number_in_more, number_in_room}
 use Rattle.tva_base.proofs.numbers.sum_of_digits.Goals as goal
 

@@ -1,5 +1,4 @@
-use Rattle.std.proofs.Common.{◌≡◌, take}
-use Rattle.tva_base.specs.Decimal.{number_in}
+use Rattle.tva_base.proofs.Common.{◌≡◌, take, number_in}
 use Rattle.tva_base.proofs.numbers.sum_of_digits.Given as goal
 
 -- the digits that were passed are counted

@@ -1,5 +1,4 @@
-use Rattle.std.proofs.Common.{Some, ap, ◌∙◌}
-use Rattle.std.proofs.lemmas.Bool.{both_ways}
+use Rattle.tva_base.proofs.Common.{Some, ap, ◌∙◌, both_ways}
 use Rattle.tva_base.proofs.Widths.{number_again, same_rights, carries_parts}
 use Rattle.tva_base.proofs.versions.rights_in.Goals as goal
 

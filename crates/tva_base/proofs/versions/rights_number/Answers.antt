@@ -1,5 +1,4 @@
-use Rattle.std.proofs.Common.{◌≡◌, ◌<◌, ◌+◌, ◌*◌, ◌^◌, ap, sym, subst, ℕ, arith}
-use Rattle.tva_base.specs.Versions.{rights_number, rights_size}
+use Rattle.tva_base.proofs.Common.{◌≡◌, ◌<◌, ◌+◌, ◌*◌, ◌^◌, ap, sym, subst, ℕ, arith, rights_number, rights_size}
 use Rattle.tva_base.proofs.Widths.{number_fits, number_short}
 use Rattle.tva_base.proofs.versions.rights_number.Goals as goal
 

@@ -1,6 +1,5 @@
 -- The value is stamped over what was hashed, piece by piece.
-use Rattle.std.proofs.Common.{◌∙◌, refl}
-use Rattle.tva_caps.specs.Formula.{capability_of}
+use Rattle.tva_caps.proofs.Common.{◌∙◌, refl, capability_of}
 use Rattle.tva_caps.proofs.formulas.capability.Goals as goal
 
 pub returns : goal.returns

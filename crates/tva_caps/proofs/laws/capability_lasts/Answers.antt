@@ -1,4 +1,4 @@
-use Rattle.std.proofs.Common.{◌≤◌, arith}
+use Rattle.tva_caps.proofs.Common.{◌≤◌, arith}
 use Rattle.tva_caps.proofs.Lasts.{ends, lasts}
 use Rattle.tva_caps.proofs.laws.capability_lasts.Goals as goal
 

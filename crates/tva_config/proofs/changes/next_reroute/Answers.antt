@@ -1,10 +1,4 @@
-use Rattle.std.proofs.Common.{◌≡◌, ◌∙◌, sym, true, false, rules, arith}
-use Rattle.std.specs.List.{list_any}
-use Rattle.std.specs.HashMap.{get}
-use Rattle.std.proofs.lemmas.Grind.{common_steps}
-use Rattle.tva_config.specs.Routes.{is_for}
-use Rattle.tva_config.specs.Changes.{is_late_reroute}
-use Rattle.tva_config.specs.Views.{is_late, same_route}
+use Rattle.tva_config.proofs.Common.{◌≡◌, ◌∙◌, sym, true, false, rules, arith, list_any, get, common_steps, is_for, is_late_reroute, is_late, same_route}
 use Rattle.tva_config.proofs.changes.next_reroute.Goals as goal
 
 pub returns-then-not-contains-clause-step : goal.returns-then-not-contains-clause-step

@@ -1,11 +1,4 @@
-use Rattle.std.proofs.Common.{◌≡◌, ◌∷◌, [], ◌++◌, sym, drop}
-use Rattle.std.proofs.lemmas.List.{drop_all}
-use Rattle.std.specs.HashMap.{get_by_text}
-use Rattle.tva_config.specs.Changes.{restart_step}
-use Rattle.tva_config.specs.Stages.{restarts_of}
-use Rattle.tva_config.specs.Views.{IsRestarted}
-use Rattle.tva_config_entries.proofs.Answered.{fault_told}
-use Rattle.tva_config_entries.proofs.InTurn.{next_at, continues_more, continues_stops, continues_ends, one_longer}
+use Rattle.tva_config.proofs.Common.{◌≡◌, ◌∷◌, [], ◌++◌, sym, drop, drop_all, get_by_text, restart_step, restarts_of, IsRestarted, fault_told, next_at, continues_more, continues_stops, continues_ends, one_longer}
 use Rattle.tva_config.proofs.Lasts.{restarted_push}
 use Rattle.tva_config.proofs.changes.number_restarts.Goals as goal
 

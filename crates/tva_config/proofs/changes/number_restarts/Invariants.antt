@@ -1,8 +1,4 @@
-use Rattle.std.proofs.Common.{◌≡◌, length, drop}
-use Rattle.std.specs.HashMap.{get_by_text}
-use Rattle.tva_config.specs.Changes.{restart_step}
-use Rattle.tva_config.specs.Views.{IsRestarted}
-use Rattle.tva_config_entries.proofs.InTurn.{Continues}
+use Rattle.tva_config.proofs.Common.{◌≡◌, length, drop, get_by_text, restart_step, IsRestarted, Continues}
 use Rattle.tva_config.proofs.changes.number_restarts.Given as goal
 
 abbrev pub invariant-loop-entry : goal.invariant-loop-entry

@@ -1,5 +1,4 @@
-use Rattle.std.proofs.Common.{◌≡◌, ◌≤◌, ◌*◌, ◌^◌, take}
-use Rattle.tva_plan.specs.Wiring.{all_places}
+use Rattle.tva_config.proofs.Common.{◌≡◌, ◌≤◌, ◌*◌, ◌^◌, take, all_places}
 use Rattle.tva_config.proofs.links.all_places.Given as goal
 
 abbrev pub invariant-loop-link : goal.invariant-loop-link

@@ -1,7 +1,4 @@
-use Rattle.std.proofs.Common.{◌≡◌, ◌∙◌, sym, true, false, rules, arith}
-use Rattle.std.specs.List.{list_any}
-use Rattle.std.proofs.lemmas.Grind.{common_steps}
-use Rattle.tva_config.specs.Links.{joins}
+use Rattle.tva_config.proofs.Common.{◌≡◌, ◌∙◌, sym, true, false, rules, arith, list_any, common_steps, joins}
 use Rattle.tva_config.proofs.Numbered.{pair_is_there}
 use Rattle.tva_config.proofs.links.link.Goals as goal
 

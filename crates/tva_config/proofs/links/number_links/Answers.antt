@@ -1,11 +1,4 @@
-use Rattle.std.proofs.Common.{◌≡◌, ◌∷◌, [], ◌++◌, sym, drop}
-use Rattle.std.proofs.lemmas.List.{drop_all}
-use Rattle.std.specs.HashMap.{get_by_text}
-use Rattle.tva_config.specs.Links.{link_step}
-use Rattle.tva_config.specs.Stages.{links_of}
-use Rattle.tva_config.specs.Views.{IsPairs}
-use Rattle.tva_config_entries.proofs.Answered.{fault_told}
-use Rattle.tva_config_entries.proofs.InTurn.{next_at, continues_more, continues_stops, continues_ends, one_longer}
+use Rattle.tva_config.proofs.Common.{◌≡◌, ◌∷◌, [], ◌++◌, sym, drop, drop_all, get_by_text, link_step, links_of, IsPairs, fault_told, next_at, continues_more, continues_stops, continues_ends, one_longer}
 use Rattle.tva_config.proofs.Numbered.{pairs_push}
 use Rattle.tva_config.proofs.links.number_links.Goals as goal
 

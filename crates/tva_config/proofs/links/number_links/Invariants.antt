@@ -1,8 +1,4 @@
-use Rattle.std.proofs.Common.{◌≡◌, length, drop}
-use Rattle.std.specs.HashMap.{get_by_text}
-use Rattle.tva_config.specs.Links.{link_step}
-use Rattle.tva_config.specs.Views.{IsPairs}
-use Rattle.tva_config_entries.proofs.InTurn.{Continues}
+use Rattle.tva_config.proofs.Common.{◌≡◌, length, drop, get_by_text, link_step, IsPairs, Continues}
 use Rattle.tva_config.proofs.links.number_links.Given as goal
 
 abbrev pub invariant-loop-i : goal.invariant-loop-i

@@ -1,6 +1,5 @@
-use Rattle.std.proofs.Common.{◌≡◌, ◌++◌, drop}
+use Rattle.tva_config.proofs.Common.{◌≡◌, ◌++◌, drop, picked, number_from}
 use Rattle.std.specs.Option.{option_to_list}
-use Rattle.tva_plan.specs.Wiring.{picked, number_from}
 use Rattle.tva_config.proofs.links.only_link.Given as goal
 
 abbrev pub invariant-loop-i : goal.invariant-loop-i

@@ -1,8 +1,4 @@
-use Rattle.std.proofs.Common.{◌∙◌, ap, sym, drop}
-use Rattle.std.proofs.lemmas.List.{drop_all}
-use Rattle.tva_config.specs.Links.{uplink_step}
-use Rattle.tva_config.specs.Stages.{uplink_of, uplinks_of}
-use Rattle.tva_config_entries.proofs.InTurn.{next_at, continues_more, continues_ends, one_longer}
+use Rattle.tva_config.proofs.Common.{◌∙◌, ap, sym, drop, drop_all, uplink_step, uplink_of, uplinks_of, next_at, continues_more, continues_ends, one_longer}
 use Rattle.tva_config.proofs.links.uplinks.Goals as goal
 
 pub loop-i-preserved : goal.loop-i-preserved

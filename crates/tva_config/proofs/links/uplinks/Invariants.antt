@@ -1,6 +1,4 @@
-use Rattle.std.proofs.Common.{◌≡◌, length, drop}
-use Rattle.tva_config.specs.Links.{uplink_step}
-use Rattle.tva_config_entries.proofs.InTurn.{Continues}
+use Rattle.tva_config.proofs.Common.{◌≡◌, length, drop, uplink_step, Continues}
 use Rattle.tva_config.proofs.links.uplinks.Given as goal
 
 abbrev pub invariant-loop-i : goal.invariant-loop-i

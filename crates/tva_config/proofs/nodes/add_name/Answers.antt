@@ -1,4 +1,4 @@
-use Rattle.std.proofs.Common.{arith}
+use Rattle.tva_config.proofs.Common.{arith}
 use Rattle.std.proofs.lemmas.Map.Text.{text_keys}
 use Rattle.tva_config.proofs.nodes.add_name.Goals as goal
 

@@ -1,7 +1,4 @@
-use Rattle.std.proofs.Common.{◌≡◌, ◌∙◌, ◌<◌, ◌==◌, ap, cond, sym, true, false, map, take, length, arith}
-use Rattle.std.specs.List.{list_any}
-use Rattle.tva_config.specs.Stages.{addresses_of}
-use Rattle.tva_config_entries.proofs.Answered.{fault_made}
+use Rattle.tva_config.proofs.Common.{◌≡◌, ◌∙◌, ◌<◌, ◌==◌, ap, cond, sym, true, false, map, take, length, arith, list_any, addresses_of, fault_made}
 use Rattle.tva_config.proofs.Numbered.{address_continues, address_stops, seen_push, untrue, true_not}
 use Rattle.tva_config.proofs.nodes.addresses.Goals as goal
 

@@ -1,8 +1,5 @@
-use Rattle.std.proofs.Common.{◌≡◌, ◌==◌, ℕ, nat_eq, map, take, drop}
-use Rattle.std.specs.List.{list_any}
+use Rattle.tva_config.proofs.Common.{◌≡◌, ◌==◌, ℕ, nat_eq, map, take, drop, list_any, address_step, Continues}
 use Rattle.std.specs.HashSet as bag
-use Rattle.tva_config.specs.Nodes.{address_step}
-use Rattle.tva_config_entries.proofs.InTurn.{Continues}
 use Rattle.tva_config.proofs.nodes.addresses.Given as goal
 
 abbrev pub invariant-loop-i : goal.invariant-loop-i

@@ -1,5 +1,4 @@
-use Rattle.std.proofs.Common.{◌≡◌, ◌≤◌, ◌*◌, ◌^◌, take}
-use Rattle.tva_config.specs.Nodes.{all_slots}
+use Rattle.tva_config.proofs.Common.{◌≡◌, ◌≤◌, ◌*◌, ◌^◌, take, all_slots}
 use Rattle.tva_config.proofs.nodes.all_slots.Given as goal
 
 abbrev pub invariant-loop-router : goal.invariant-loop-router

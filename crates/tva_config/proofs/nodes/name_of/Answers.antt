@@ -1,4 +1,4 @@
-use Rattle.std.proofs.Common.{◌<◌, ◌-◌, ◌∙◌, length, arith}
+use Rattle.tva_config.proofs.Common.{◌<◌, ◌-◌, ◌∙◌, length, arith}
 use Rattle.tva_config.proofs.Numbered.{router_name, host_name}
 use Rattle.tva_config.proofs.nodes.name_of.Goals as goal
 

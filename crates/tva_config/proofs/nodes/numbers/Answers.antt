@@ -1,14 +1,5 @@
-use Rattle.std.proofs.Common.{rules, ◌≡◌, ◌∙◌, ◌<◌, ◌≤◌, [], length, ap, sym, true, false, get_or, take, drop, codes, Ok, arith}
-use Rattle.std.proofs.lemmas.List.{drop_all, take_all, take_more}
-use Rattle.std.specs.List.{list_any}
-use Rattle.std.specs.Str.{bytes_eq}
+use Rattle.tva_config.proofs.Common.{rules, ◌≡◌, ◌∙◌, ◌<◌, ◌≤◌, [], length, ap, sym, true, false, get_or, take, drop, codes, Ok, arith, drop_all, take_all, take_more, list_any, bytes_eq, fault_at, node_names, name_step, names_of, Numbers, fault_made, continues_ends}
 use Rattle.tva_config_entries.specs.declared.faults.ConfigRule.TheVariants as rule
-use Rattle.tva_config_entries.specs.Faults.{fault_at}
-use Rattle.tva_config.specs.Nodes.{node_names, name_step}
-use Rattle.tva_config.specs.Stages.{names_of}
-use Rattle.tva_config.specs.Views.{Numbers}
-use Rattle.tva_config_entries.proofs.Answered.{fault_made}
-use Rattle.tva_config_entries.proofs.InTurn.{continues_ends}
 use Rattle.tva_config.proofs.Numbered.{names_push, name_is_there, name_continues, name_stops, names_long, length_taken, all_named, untrue, true_not}
 use Rattle.tva_config.proofs.nodes.numbers.Goals as goal
 

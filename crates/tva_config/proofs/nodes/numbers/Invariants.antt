@@ -1,7 +1,4 @@
-use Rattle.std.proofs.Common.{length, take, drop}
-use Rattle.tva_config.specs.Nodes.{node_names, name_step}
-use Rattle.tva_config.specs.Views.{IsNumbers}
-use Rattle.tva_config_entries.proofs.InTurn.{Continues}
+use Rattle.tva_config.proofs.Common.{length, take, drop, node_names, name_step, IsNumbers, Continues}
 use Rattle.tva_config.proofs.nodes.numbers.Given as goal
 
 abbrev pub invariant-loop-i : goal.invariant-loop-i

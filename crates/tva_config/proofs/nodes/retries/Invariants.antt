@@ -1,6 +1,4 @@
-use Rattle.std.proofs.Common.{map, take, drop}
-use Rattle.tva_config.specs.Nodes.{retry_step}
-use Rattle.tva_config_entries.proofs.InTurn.{Continues}
+use Rattle.tva_config.proofs.Common.{map, take, drop, retry_step, Continues}
 use Rattle.tva_config.proofs.nodes.retries.Given as goal
 
 abbrev pub invariant-loop-i : goal.invariant-loop-i

@@ -1,5 +1,4 @@
-use Rattle.std.proofs.Common.{rules}
-use Rattle.tva_config.specs.Stages.{slots_of}
+use Rattle.tva_config.proofs.Common.{rules, slots_of}
 use Rattle.tva_config.proofs.nodes.slots.Goals as goal
 
 pub returns : goal.returns

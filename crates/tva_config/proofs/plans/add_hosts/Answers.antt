@@ -1,8 +1,5 @@
-use Rattle.std.proofs.Common.{◌∙◌, ◌+◌, ◌<◌, ◌∷◌, length, drop, sym, ap, arith}
-use Rattle.std.proofs.lemmas.List.{drop_more}
-use Rattle.std.specs.Vec.Iter.{into_iter_items}
+use Rattle.tva_config.proofs.Common.{◌∙◌, ◌+◌, ◌<◌, ◌∷◌, length, drop, sym, ap, arith, drop_more, into_iter_items, host_plans}
 use Rattle.tva_plan.specs.declared.config.NodePlan.TheVariants as node
-use Rattle.tva_config.specs.Stages.{host_plans}
 use Rattle.tva_config.proofs.Longer.{longer}
 use Rattle.tva_config.proofs.plans.add_hosts.Goals as goal
 

@@ -1,6 +1,4 @@
-use Rattle.std.proofs.Common.{◌≡◌, ◌+◌, ◌++◌, length, drop}
-use Rattle.std.specs.Vec.Iter.{into_iter_items}
-use Rattle.tva_config.specs.Stages.{host_plans}
+use Rattle.tva_config.proofs.Common.{◌≡◌, ◌+◌, ◌++◌, length, drop, into_iter_items, host_plans}
 use Rattle.tva_config.proofs.plans.add_hosts.Given as goal
 
 abbrev pub invariant-loop-host : goal.invariant-loop-host

@@ -1,5 +1,4 @@
-use Rattle.std.proofs.Common.{◌∙◌, ap}
-use Rattle.tva_plan.specs.Wiring.{limited_from, outgoing_of}
+use Rattle.tva_config.proofs.Common.{◌∙◌, ap, limited_from, outgoing_of}
 use Rattle.tva_config.proofs.Longer.{picked_one, picked_none, picked_all, taken, skipped}
 use Rattle.tva_config.proofs.plans.outgoing.Goals.{then-link-node+in_ok-push, else-link-node}
 use Rattle.tva_config.proofs.plans.outgoing.Goals as goal

@@ -1,5 +1,4 @@
-use Rattle.std.proofs.Common.{◌≡◌, ◌++◌, drop}
-use Rattle.tva_plan.specs.Wiring.{picked, limited_from}
+use Rattle.tva_config.proofs.Common.{◌≡◌, ◌++◌, drop, picked, limited_from}
 use Rattle.tva_config.proofs.plans.outgoing.Given as goal
 
 abbrev pub invariant-loop-i : goal.invariant-loop-i

@@ -1,5 +1,4 @@
-use Rattle.std.proofs.Common.{◌∙◌, ap}
-use Rattle.tva_config.specs.Stages.{if_reroute, reroutes_at}
+use Rattle.tva_config.proofs.Common.{◌∙◌, ap, if_reroute, reroutes_at}
 use Rattle.tva_config.proofs.Longer.{mapped_one, mapped_none, mapped_all, taken, skipped}
 use Rattle.tva_config.proofs.plans.reroutes_at.Goals.{then-reroute-router+in_ok-push, else-reroute-router}
 use Rattle.tva_config.proofs.plans.reroutes_at.Goals as goal

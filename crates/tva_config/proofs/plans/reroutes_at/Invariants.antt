@@ -1,6 +1,4 @@
-use Rattle.std.proofs.Common.{◌≡◌, ◌++◌, drop}
-use Rattle.std.specs.List.{filter_map}
-use Rattle.tva_config.specs.Stages.{if_reroute}
+use Rattle.tva_config.proofs.Common.{◌≡◌, ◌++◌, drop, filter_map, if_reroute}
 use Rattle.tva_config.proofs.plans.reroutes_at.Given as goal
 
 abbrev pub invariant-loop-reroute : goal.invariant-loop-reroute

@@ -1,5 +1,4 @@
-use Rattle.std.proofs.Common.{◌∙◌, ap}
-use Rattle.tva_config.specs.Stages.{if_restart, restarts_at}
+use Rattle.tva_config.proofs.Common.{◌∙◌, ap, if_restart, restarts_at}
 use Rattle.tva_config.proofs.Longer.{mapped_one, mapped_none, mapped_all, taken, skipped}
 use Rattle.tva_config.proofs.plans.restarts_at.Goals.{then-restart-router+in_ok-push, else-restart-router}
 use Rattle.tva_config.proofs.plans.restarts_at.Goals as goal

@@ -1,6 +1,4 @@
-use Rattle.std.proofs.Common.{◌≡◌, ◌++◌, drop}
-use Rattle.std.specs.List.{filter_map}
-use Rattle.tva_config.specs.Stages.{if_restart}
+use Rattle.tva_config.proofs.Common.{◌≡◌, ◌++◌, drop, filter_map, if_restart}
 use Rattle.tva_config.proofs.plans.restarts_at.Given as goal
 
 abbrev pub invariant-loop-restart : goal.invariant-loop-restart

@@ -1,8 +1,5 @@
-use Rattle.std.proofs.Common.{◌∙◌, ◌+◌, ◌∷◌, length, sym, ap, arith}
-use Rattle.std.specs.Vec.Iter.{into_iter_items}
+use Rattle.tva_config.proofs.Common.{◌∙◌, ◌+◌, ◌∷◌, length, sym, ap, arith, into_iter_items, router_plans, seen_owned}
 use Rattle.tva_plan.specs.declared.config.NodePlan.TheVariants as node
-use Rattle.tva_config.specs.Read.{router_plans}
-use Rattle.tva_config.specs.Views.{seen_owned}
 use Rattle.tva_config.proofs.Longer.{longer}
 use Rattle.tva_config.proofs.plans.router_plans.Goals as goal
 

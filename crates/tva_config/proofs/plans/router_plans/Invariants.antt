@@ -1,7 +1,4 @@
-use Rattle.std.proofs.Common.{◌≡◌, ◌+◌, ◌++◌, length}
-use Rattle.std.specs.Vec.Iter.{into_iter_items}
-use Rattle.tva_config.specs.Read.{router_plans}
-use Rattle.tva_config.specs.Views.{seen_owned}
+use Rattle.tva_config.proofs.Common.{◌≡◌, ◌+◌, ◌++◌, length, into_iter_items, router_plans, seen_owned}
 use Rattle.tva_config.proofs.plans.router_plans.Given as goal
 
 abbrev pub invariant-loop-router : goal.invariant-loop-router

@@ -1,5 +1,4 @@
-use Rattle.std.proofs.Common.{◌∙◌, ap}
-use Rattle.tva_config.specs.Stages.{if_owned, routes_at}
+use Rattle.tva_config.proofs.Common.{◌∙◌, ap, if_owned, routes_at}
 use Rattle.tva_config.proofs.Longer.{mapped_one, mapped_none, mapped_all, taken, skipped}
 use Rattle.tva_config.proofs.plans.routes_at.Goals.{then-owned-router+in_ok-push, else-owned-router}
 use Rattle.tva_config.proofs.plans.routes_at.Goals as goal

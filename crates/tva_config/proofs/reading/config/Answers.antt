@@ -1,7 +1,4 @@
-use Rattle.std.proofs.Common.{◌≡◌, ◌∙◌, ◌++◌, ap}
-use Rattle.tva_config.specs.Read.{router_plans}
-use Rattle.tva_config.specs.Stages.{host_plans, config_of}
-use Rattle.tva_config.specs.Views.{seen_owned}
+use Rattle.tva_config.proofs.Common.{◌≡◌, ◌∙◌, ◌++◌, ap, router_plans, host_plans, config_of, seen_owned}
 use Rattle.tva_config.proofs.reading.config.Goals as goal
 
 pub returns : goal.returns

@@ -1,10 +1,4 @@
-use Rattle.std.proofs.Common.{◌≡◌, ◌∙◌, map, refl, ap, sym, Ok, Err}
-use Rattle.std.specs.HashMap.{get_by_text}
-use Rattle.tva_config.specs.Nodes.{node_names, node_of}
-use Rattle.tva_config.specs.Stages.{names_of, addresses_of, retries_of, linked_of, joined_of}
-use Rattle.tva_config.specs.Views.{Numbers, seen_joined}
-use Rattle.tva_config_entries.specs.Views.{seen_entries}
-use Rattle.tva_config_entries.proofs.Answered.{answered_there, error_told, fault_told, given, refused}
+use Rattle.tva_config.proofs.Common.{◌≡◌, ◌∙◌, map, refl, ap, sym, Ok, Err, get_by_text, node_names, node_of, names_of, addresses_of, retries_of, linked_of, joined_of, Numbers, seen_joined, seen_entries, answered_there, error_told, fault_told, given, refused}
 use Rattle.tva_config.proofs.reading.join.Goals as goal
 
 pub returns-in_err-numbers-clause-answer : goal.returns-in_err-numbers-clause-answer

@@ -1,11 +1,5 @@
-use Rattle.std.proofs.Common.{◌≡◌, ◌∙◌, length, refl, sym, Ok, Err, Vec, Global, ℕ}
-use Rattle.std.specs.HashMap.{get_by_text}
+use Rattle.tva_config.proofs.Common.{◌≡◌, ◌∙◌, length, refl, sym, Ok, Err, Vec, Global, ℕ, get_by_text, link_between, slots_of, links_of, uplinks_of, owned_of, linked_of, link_at, seen_owned, seen_joined, seen_entries, answered_there, error_told, fault_told, given, refused}
 use Rattle.tva_config.specs.declared.links.NumberedLinks.{NumberedLinks}
-use Rattle.tva_config.specs.Links.{link_between}
-use Rattle.tva_config.specs.Stages.{slots_of, links_of, uplinks_of, owned_of, linked_of}
-use Rattle.tva_config.specs.Views.{link_at, seen_owned, seen_joined}
-use Rattle.tva_config_entries.specs.Views.{seen_entries}
-use Rattle.tva_config_entries.proofs.Answered.{answered_there, error_told, fault_told, given, refused}
 use Rattle.tva_config.proofs.reading.join_links.Goals as goal
 
 pub returns-in_err-links-clause-answer : goal.returns-in_err-links-clause-answer

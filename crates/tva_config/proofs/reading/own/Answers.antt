@@ -1,12 +1,5 @@
-use Rattle.std.proofs.Common.{◌≡◌, ◌∙◌, refl, Ok, Err, Vec, Global}
-use Rattle.std.specs.HashMap.{get_by_text}
-use Rattle.tva_config.specs.declared.joined.OwnedRestart.{OwnedRestart}
-use Rattle.tva_config.specs.declared.joined.OwnedReroute.{OwnedReroute}
+use Rattle.tva_config.proofs.Common.{◌≡◌, ◌∙◌, refl, Ok, Err, Vec, Global, get_by_text, OwnedRestart, OwnedReroute, routes_of, restarts_of, reroutes_of, owned_of, link_at, seen_owned, seen_entries, answered_there, error_told, given}
 use Rattle.tva_config.specs.declared.routes.NumberedRoutes.{NumberedRoutes}
-use Rattle.tva_config.specs.Stages.{routes_of, restarts_of, reroutes_of, owned_of}
-use Rattle.tva_config.specs.Views.{link_at, seen_owned}
-use Rattle.tva_config_entries.specs.Views.{seen_entries}
-use Rattle.tva_config_entries.proofs.Answered.{answered_there, error_told, given}
 use Rattle.tva_config.proofs.reading.own.Goals as goal
 
 pub returns-in_err-routes : goal.returns-in_err-routes

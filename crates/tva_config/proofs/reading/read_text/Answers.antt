@@ -1,7 +1,4 @@
-use Rattle.std.proofs.Common.{◌∙◌, refl, sym}
-use Rattle.tva_config.specs.Read.{read_of}
-use Rattle.tva_config_entries.specs.Views.{seen_entries}
-use Rattle.tva_config_entries.proofs.Answered.{answered_there, error_told, given}
+use Rattle.tva_config.proofs.Common.{◌∙◌, refl, sym, read_of, seen_entries, answered_there, error_told, given}
 use Rattle.tva_config.proofs.Staged.{plan_staged}
 use Rattle.tva_config.proofs.reading.read_text.Goals as goal
 

@@ -1,5 +1,4 @@
-use Rattle.std.proofs.Common.{◌∙◌, ap, option_and_then}
-use Rattle.tva_config.specs.Views.{link_at}
+use Rattle.tva_config.proofs.Common.{◌∙◌, ap, option_and_then, link_at}
 use Rattle.tva_config.proofs.routes.link_to.Goals as goal
 
 pub returns-in-Some : goal.returns-in-Some

@@ -1,7 +1,4 @@
-use Rattle.std.proofs.Common.{◌≡◌, ◌∙◌, sym, true, false, rules, arith}
-use Rattle.std.specs.List.{list_any}
-use Rattle.std.proofs.lemmas.Grind.{common_steps}
-use Rattle.tva_config.specs.Routes.{is_for}
+use Rattle.tva_config.proofs.Common.{◌≡◌, ◌∙◌, sym, true, false, rules, arith, list_any, common_steps, is_for}
 use Rattle.tva_config.proofs.routes.next.Goals as goal
 
 pub returns-then-contains : goal.returns-then-contains

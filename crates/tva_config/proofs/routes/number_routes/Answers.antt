@@ -1,11 +1,4 @@
-use Rattle.std.proofs.Common.{◌≡◌, ◌∷◌, [], ◌++◌, ◌∙◌, ap, sym, drop, true, cond}
-use Rattle.std.proofs.lemmas.List.{drop_all}
-use Rattle.std.specs.HashMap.{get_by_text}
-use Rattle.tva_config.specs.Routes.{is_for, route_step}
-use Rattle.tva_config.specs.Stages.{routes_of}
-use Rattle.tva_config.specs.Views.{IsSeen, same_route, link_at}
-use Rattle.tva_config_entries.proofs.Answered.{fault_told}
-use Rattle.tva_config_entries.proofs.InTurn.{next_at, continues_more, continues_stops, continues_ends, one_longer}
+use Rattle.tva_config.proofs.Common.{◌≡◌, ◌∷◌, [], ◌++◌, ◌∙◌, ap, sym, drop, true, cond, drop_all, get_by_text, is_for, route_step, routes_of, IsSeen, same_route, link_at, fault_told, next_at, continues_more, continues_stops, continues_ends, one_longer}
 use Rattle.tva_config.proofs.Numbered.{any_push}
 use Rattle.tva_config.proofs.routes.number_routes.Goals as goal
 

@@ -1,8 +1,4 @@
-use Rattle.std.proofs.Common.{◌≡◌, length, drop}
-use Rattle.std.specs.HashMap.{get_by_text}
-use Rattle.tva_config.specs.Routes.{route_step}
-use Rattle.tva_config.specs.Views.{link_at, IsSeen}
-use Rattle.tva_config_entries.proofs.InTurn.{Continues}
+use Rattle.tva_config.proofs.Common.{◌≡◌, length, drop, get_by_text, route_step, link_at, IsSeen, Continues}
 use Rattle.tva_config.proofs.routes.number_routes.Given as goal
 
 abbrev pub invariant-loop-entry : goal.invariant-loop-entry

@@ -1,4 +1,4 @@
-use Rattle.std.proofs.Common.{◌∙◌, sym}
+use Rattle.tva_config_entries.proofs.Common.{◌∙◌, sym}
 use Rattle.tva_config_entries.proofs.Items.{collects_more, collects_none, collects_all}
 use Rattle.tva_config_entries.proofs.arrays.each.Goals as goal
 

@@ -1,7 +1,4 @@
-use Rattle.std.proofs.Common.{◌∙◌, sym, ap, map}
-use Rattle.std.proofs.lemmas.List.{map_push}
-use Rattle.toml.specs.Data.{as_table}
-use Rattle.toml.specs.View.{table_view}
+use Rattle.tva_config_entries.proofs.Common.{◌∙◌, sym, ap, map, map_push, as_table, table_view}
 use Rattle.tva_config_entries.proofs.Items.{collects_more, collects_none, collects_all}
 use Rattle.tva_config_entries.proofs.arrays.each_table.Goals as goal
 

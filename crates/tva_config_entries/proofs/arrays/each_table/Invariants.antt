@@ -1,7 +1,5 @@
-use Rattle.std.proofs.Common.{map}
-use Rattle.toml.specs.View.{table_view}
+use Rattle.tva_config_entries.proofs.Common.{map, table_view, as_table}
 use Rattle.tva_config_entries.proofs.Items.{Collects}
-use Rattle.toml.specs.Data.{as_table}
 use Rattle.tva_config_entries.proofs.arrays.each_table.Given as goal
 
 abbrev pub invariant-loop-value : goal.invariant-loop-value

@@ -1,4 +1,4 @@
-use Rattle.std.proofs.Common.{◌∙◌, map}
+use Rattle.tva_config_entries.proofs.Common.{◌∙◌, map}
 use Rattle.tva_config_entries.proofs.Listed.{names_listed}
 use Rattle.tva_config_entries.proofs.keys.are_listed.Goals as goal
 

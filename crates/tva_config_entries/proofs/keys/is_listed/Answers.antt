@@ -1,4 +1,4 @@
-use Rattle.std.proofs.Common.{◌∙◌, sym}
+use Rattle.tva_config_entries.proofs.Common.{◌∙◌, sym}
 use Rattle.tva_config_entries.proofs.Listed.{any_of_keys}
 use Rattle.tva_config_entries.proofs.keys.is_listed.Goals as goal
 

@@ -1,14 +1,7 @@
-use Rattle.std.proofs.Common.{◌∙◌, refl, Ok, Err, Vec, Global}
+use Rattle.tva_config_entries.proofs.Common.{◌∙◌, refl, Ok, Err, Vec, Global, RouterEntry, HostEntry, LinkEntry, RouteEntry, router_of, host_of, link_of, route_of, restart_of, reroute_of, all_entries_of, seen_top, seen_entries}
 use Rattle.tva_config_entries.specs.declared.faults.ConfigTable.TheVariants as table
-use Rattle.tva_config_entries.specs.declared.entries.RouterEntry.{RouterEntry}
-use Rattle.tva_config_entries.specs.declared.entries.HostEntry.{HostEntry}
-use Rattle.tva_config_entries.specs.declared.entries.LinkEntry.{LinkEntry}
-use Rattle.tva_config_entries.specs.declared.entries.RouteEntry.{RouteEntry}
 use Rattle.tva_config_entries.specs.declared.entries.RestartEntry.{RestartEntry}
 use Rattle.tva_config_entries.specs.declared.entries.RerouteEntry.{RerouteEntry}
-use Rattle.tva_config_entries.specs.Entries.{router_of, host_of, link_of, route_of, restart_of, reroute_of}
-use Rattle.tva_config_entries.specs.Stages.{all_entries_of, seen_top}
-use Rattle.tva_config_entries.specs.Views.{seen_entries}
 use Rattle.tva_config_entries.proofs.Answered.{error_told, given}
 use Rattle.tva_config_entries.proofs.Seen.{read_of_same}
 use Rattle.tva_config_entries.proofs.reading.all_entries.Goals as goal

@@ -1,5 +1,4 @@
-use Rattle.std.proofs.Common.{sym, IsTrue}
-use Rattle.toml.specs.View.{table_view}
+use Rattle.tva_config_entries.proofs.Common.{sym, IsTrue, table_view}
 use Rattle.tva_config_entries.proofs.Documents.{document_parsed, document_refused}
 use Rattle.tva_config_entries.proofs.reading.document.Goals as goal
 

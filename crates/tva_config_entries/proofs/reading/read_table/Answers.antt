@@ -1,9 +1,5 @@
-use Rattle.std.proofs.Common.{◌∙◌, sym}
-use Rattle.toml.specs.View.{table_view}
-use Rattle.tva_config_entries.specs.Reading.{members_read}
+use Rattle.tva_config_entries.proofs.Common.{◌∙◌, sym, table_view, members_read, seen_top, seen_entries}
 use Rattle.tva_config_entries.proofs.Staged.{members_staged}
-use Rattle.tva_config_entries.specs.Stages.{seen_top}
-use Rattle.tva_config_entries.specs.Views.{seen_entries}
 use Rattle.tva_config_entries.proofs.Answered.{answered_there, error_told, fault_told, given, refused}
 use Rattle.tva_config_entries.proofs.Seen.{counts_seen}
 use Rattle.tva_config_entries.proofs.reading.read_table.Goals as goal

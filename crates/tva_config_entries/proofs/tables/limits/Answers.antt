@@ -1,9 +1,5 @@
-use Rattle.std.proofs.Common.{◌∙◌, ℕ, Option, sym, ap, Ok}
-use Rattle.toml.specs.View.{table_view}
-use Rattle.tva_config_entries.specs.Entries.{limits_of}
-use Rattle.tva_config_entries.specs.Entries.{class_limits}
+use Rattle.tva_config_entries.proofs.Common.{◌∙◌, ℕ, Option, sym, ap, Ok, table_view, limits_of, class_limits, LinkLimits}
 use Rattle.tva_base.specs.declared.limits.DrrLimits.{DrrLimits}
-use Rattle.tva_base.specs.declared.limits.LinkLimits.{LinkLimits}
 use Rattle.tva_config_entries.proofs.Answered.{fault_kept, given, refused}
 use Rattle.tva_config_entries.proofs.tables.limits.Goals as goal
 

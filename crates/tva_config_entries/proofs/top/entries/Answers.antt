@@ -1,9 +1,4 @@
-use Rattle.std.proofs.Common.{◌∙◌, ap, drop, map}
-use Rattle.std.proofs.lemmas.List.{drop_all}
-use Rattle.toml.specs.View.{table_view}
-use Rattle.tva_config_entries.specs.Faults.{at}
-use Rattle.tva_config_entries.specs.Tables.{table_entries}
-use Rattle.tva_config_entries.specs.Stages.{entry_step}
+use Rattle.tva_config_entries.proofs.Common.{◌∙◌, ap, drop, map, drop_all, table_view, at, table_entries, entry_step}
 use Rattle.tva_config_entries.proofs.InTurn.{next_at, continues_more, continues_ends, one_longer}
 use Rattle.tva_config_entries.proofs.top.entries.Goals as goal
 

@@ -1,6 +1,4 @@
-use Rattle.std.proofs.Common.{◌≡◌, length, drop, map}
-use Rattle.toml.specs.View.{table_view}
-use Rattle.tva_config_entries.specs.Stages.{entry_step}
+use Rattle.tva_config_entries.proofs.Common.{◌≡◌, length, drop, map, table_view, entry_step}
 use Rattle.tva_config_entries.proofs.InTurn.{Continues}
 use Rattle.tva_config_entries.proofs.top.entries.Given as goal
 

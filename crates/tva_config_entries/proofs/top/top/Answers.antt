@@ -1,6 +1,4 @@
-use Rattle.std.proofs.Common.{◌∙◌, sym}
-use Rattle.toml.specs.View.{table_view}
-use Rattle.tva_config_entries.specs.Stages.{top_of, seen_top}
+use Rattle.tva_config_entries.proofs.Common.{◌∙◌, sym, table_view, top_of, seen_top}
 use Rattle.tva_config_entries.proofs.Answered.{answered_there, fault_told, given, refused}
 use Rattle.tva_config_entries.proofs.top.top.Goals as goal
 

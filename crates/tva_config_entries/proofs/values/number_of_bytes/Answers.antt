@@ -1,4 +1,4 @@
-use Rattle.std.proofs.Common.{◌<◌, ◌^◌, arith}
+use Rattle.tva_config_entries.proofs.Common.{◌<◌, ◌^◌, arith}
 use Rattle.tva_config_entries.proofs.Bytes.{five_bytes}
 use Rattle.tva_config_entries.proofs.values.number_of_bytes.Goals as goal
 

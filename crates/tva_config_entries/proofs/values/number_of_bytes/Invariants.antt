@@ -1,5 +1,4 @@
-use Rattle.std.proofs.Common.{◌≡◌, ◌<◌, ◌^◌, take}
-use Rattle.tva_config_entries.specs.Values.{number_of_bytes}
+use Rattle.tva_config_entries.proofs.Common.{◌≡◌, ◌<◌, ◌^◌, take, number_of_bytes}
 use Rattle.tva_config_entries.proofs.values.number_of_bytes.Given as goal
 
 abbrev pub invariant-loop-byte : goal.invariant-loop-byte

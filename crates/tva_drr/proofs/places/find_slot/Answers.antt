@@ -1,8 +1,4 @@
-use Rattle.std.proofs.Common.{◌≡◌, ◌<◌, ℕ, Option, Some, None, arith, ap, ◌∙◌, sym, subst, length}
-use Rattle.tva_drr.specs.Queues.{queue, bytes_in}
-use Rattle.tva_drr.specs.Rows.{queues_in}
-use Rattle.tva_drr.specs.Places.{IsPlace}
-use Rattle.tva_index.specs.KeyRing.{place_in}
+use Rattle.tva_drr.proofs.Common.{◌≡◌, ◌<◌, ℕ, Option, Some, None, arith, ap, ◌∙◌, sym, subst, length, queue, bytes_in, queues_in, IsPlace, place_in}
 use Rattle.tva_drr.proofs.Lists.{items_of_at, items_of_none}
 use Rattle.tva_drr.proofs.Rows.{queue_read, keys-queues, length-queues}
 use Rattle.tva_drr.proofs.Keys.{place_is}

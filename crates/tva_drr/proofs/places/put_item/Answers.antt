@@ -1,10 +1,4 @@
-use Rattle.std.proofs.Common.{◌<◌, ◌∷◌, [], ◌++◌, sym, ◌∙◌, ap, arith, length, cond, ◌==◌}
-use Rattle.std.proofs.lemmas.List.{map-set, map_push}
-use Rattle.tva_index.specs.KeyRing.{place_in}
-use Rattle.tva_drr.specs.Queues.{queue, bytes_in}
-use Rattle.tva_drr.specs.declared.served.Served.{Served}
-use Rattle.tva_drr.specs.Sources.{TurnsOver, served}
-use Rattle.tva_drr.specs.Rows.{RowOf, row, queues_in}
+use Rattle.tva_drr.proofs.Common.{◌<◌, ◌∷◌, [], ◌++◌, sym, ◌∙◌, ap, arith, length, cond, ◌==◌, map-set, map_push, place_in, queue, bytes_in, Served, TurnsOver, served, RowOf, row, queues_in}
 use Rattle.tva_drr.proofs.Keys.{no_place}
 use Rattle.tva_drr.proofs.Lists.{items_of_at, put_at, put_new}
 use Rattle.tva_drr.proofs.Rows.{queue_read, keys-queues, length-queues}

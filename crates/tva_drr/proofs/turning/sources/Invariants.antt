@@ -1,5 +1,4 @@
-use Rattle.std.proofs.Common.{◌≡◌, length}
-use Rattle.std.specs.List.{All}
+use Rattle.tva_drr.proofs.Common.{◌≡◌, length, All}
 use Rattle.tva_drr.proofs.turning.sources.Given as goal
 
 abbrev pub invariant-loop-i : goal.invariant-loop-i

@@ -1,7 +1,5 @@
-use Rattle.std.proofs.Common.{sym, ap, ◌∙◌, arith}
-use Rattle.tva_flow.specs.declared.kept.Entry.{Entry}
+use Rattle.tva_flow.proofs.Common.{sym, ap, ◌∙◌, arith, Entry, renewed}
 use Rattle.tva_flow.proofs.Indexed.{same_read}
-use Rattle.tva_flow.specs.Steps.{renewed}
 use Rattle.tva_flow.proofs.Admit.{answers-renewed, answers-denied, judged}
 use Rattle.tva_flow.proofs.ByEntry.{living_rows}
 use Rattle.tva_flow.proofs.Near.{near-get, near-set, near-renewed, end-le}

@@ -1,7 +1,5 @@
-use Rattle.std.proofs.Common.{sym, ap, ◌∙◌, arith}
-use Rattle.tva_flow.specs.declared.kept.Entry.{Entry}
+use Rattle.tva_flow.proofs.Common.{sym, ap, ◌∙◌, arith, Entry, renewed}
 use Rattle.tva_flow.proofs.Indexed.{same_read}
-use Rattle.tva_flow.specs.Steps.{renewed}
 use Rattle.tva_flow.proofs.Admit.{answers-held, answers-unheld, held_judged}
 use Rattle.tva_flow.proofs.ByEntry.{held_fits}
 use Rattle.tva_flow.proofs.Near.{near-get, near-set, near-held, packet_of, end-le}

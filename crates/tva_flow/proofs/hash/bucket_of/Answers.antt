@@ -1,5 +1,4 @@
-use Rattle.std.proofs.Common.{rules}
-use Rattle.tva_flow.specs.Hash.{bucket_of}
+use Rattle.tva_flow.proofs.Common.{rules, bucket_of}
 use Rattle.tva_flow.proofs.hash.bucket_of.Goals as goal
 
 pub returns-clause-value : goal.returns-clause-value

@@ -1,4 +1,4 @@
-use Rattle.std.proofs.Common.{arith}
+use Rattle.tva_flow.proofs.Common.{arith}
 use Rattle.tva_flow.proofs.Near.{credit-short}
 use Rattle.tva_flow.proofs.kept.fresh.Goals as goal
 

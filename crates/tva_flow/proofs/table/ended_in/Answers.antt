@@ -1,7 +1,4 @@
-use Rattle.std.proofs.Common.{◌≡◌, ℕ, ◌<◌, ◌∙◌, Bool, true, ltb, length, set, Some, inr, arith}
-use Rattle.std.proofs.lemmas.List.{length-set}
-use Rattle.std.proofs.lemmas.Bool.Decides.{nat_tests}
-use Rattle.tva_index.specs.Lowest.{IsLeastPlace}
+use Rattle.tva_flow.proofs.Common.{◌≡◌, ℕ, ◌<◌, ◌∙◌, Bool, true, ltb, length, set, Some, inr, arith, length-set, nat_tests, IsLeastPlace}
 use Rattle.tva_flow.proofs.Late.{late-le, raised, turn_left, still_least}
 use Rattle.tva_flow.proofs.table.ended_in.Goals as goal
 

@@ -1,6 +1,4 @@
-use Rattle.std.proofs.Common.{◌≡◌, ◌+◌, ◌≤◌, ◌⊎◌, length, Some}
-use Rattle.tva_index.specs.Lowest.{IsLeastPlace}
-use Rattle.tva_flow.specs.Index.{AreNoLater}
+use Rattle.tva_flow.proofs.Common.{◌≡◌, ◌+◌, ◌≤◌, ◌⊎◌, length, Some, IsLeastPlace, AreNoLater}
 use Rattle.tva_flow.proofs.Late.{AllLive, late}
 use Rattle.tva_flow.proofs.table.ended_in.Given as goal
 

@@ -1,6 +1,5 @@
-use Rattle.std.proofs.Common.{ap, length, arith}
+use Rattle.tva_flow.proofs.Common.{ap, length, arith, rank, rank-le}
 use Rattle.tva_flow.proofs.Same.{not_same}
-use Rattle.tva_index.proofs.Chains.{rank, rank-le}
 use Rattle.tva_flow.proofs.Indexed.{walk_starts, rest_starts, rest_goes, none_of}
 use Rattle.tva_flow.proofs.table.find_in.Goals as goal
 

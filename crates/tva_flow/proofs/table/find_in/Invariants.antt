@@ -1,7 +1,5 @@
-use Rattle.std.proofs.Common.{◌≡◌, ℕ, ◌<◌, length, get_or, Some, None, MatchOption}
-use Rattle.tva_flow.specs.declared.kept.Entry.{Entry}
-use Rattle.tva_flow.specs.Index.{IsUpTo}
-use Rattle.tva_index.proofs.Chains.{rank}
+use Rattle.tva_flow.proofs.Common.{◌≡◌, ℕ, ◌<◌, length, get_or, Some, None, Entry, IsUpTo, rank}
+use Rattle.std.proofs.Common.{MatchOption}
 use Rattle.tva_flow.proofs.table.find_in.Given as goal
 
 -- the walk is in the bucket, and has each place of the flow still before it

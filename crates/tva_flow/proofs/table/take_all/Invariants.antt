@@ -1,4 +1,4 @@
-use Rattle.std.proofs.Common.{◌≡◌, ℕ, ◌<◌, ◌≤◌, length, get_or, Some, None}
+use Rattle.tva_flow.proofs.Common.{◌≡◌, ℕ, ◌<◌, ◌≤◌, length, get_or, Some, None}
 use Rattle.std.specs.Vec.{vec_capacity}
 use Rattle.tva_flow.proofs.table.take_all.Given as goal
 

@@ -1,5 +1,4 @@
-use Rattle.std.proofs.Common.{◌≡◌, ◌++◌, map, drop}
-use Rattle.tva_gen.specs.Hosts.{hosts_in}
+use Rattle.tva_gen.proofs.Common.{◌≡◌, ◌++◌, map, drop, hosts_in}
 use Rattle.tva_gen.proofs.hosts.hosts_in.Given as goal
 
 abbrev pub invariant-loop-node : goal.invariant-loop-node

@@ -1,4 +1,4 @@
-use Rattle.std.proofs.Common.{map, arith}
+use Rattle.tva_gen.proofs.Common.{map, arith}
 use Rattle.tva_gen.proofs.RowsPut.{all_put, row_put}
 use Rattle.tva_gen.proofs.rows.put_rows.Goals as goal
 

@@ -1,5 +1,4 @@
-use Rattle.std.proofs.Common.{◌≡◌, ◌++◌, map}
-use Rattle.tva_gen.specs.Rows.{drawn_rows}
+use Rattle.tva_gen.proofs.Common.{◌≡◌, ◌++◌, map, drawn_rows}
 use Rattle.tva_gen.proofs.rows.put_rows.Given as goal
 
 abbrev pub invariant-loop-left : goal.invariant-loop-left

@@ -1,6 +1,4 @@
-use Rattle.std.proofs.Common.{decimal}
-use Rattle.std.proofs.lemmas.Result.{on_ok_weaker}
-use Rattle.tva_gen.specs.Hosts.{address_text}
+use Rattle.tva_gen.proofs.Common.{decimal, on_ok_weaker, address_text}
 use Rattle.tva_gen.proofs.Lines.{on_ok_put, sent}
 use Rattle.tva_gen.proofs.rows.put_send.Goals as goal
 

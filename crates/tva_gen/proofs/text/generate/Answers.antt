@@ -1,7 +1,5 @@
-use Rattle.std.proofs.Common.{◌∙◌, ap, arith}
+use Rattle.tva_gen.proofs.Common.{◌∙◌, ap, arith, hosts_in, generator_of}
 use Rattle.std.proofs.lemmas.Grind.{common_steps}
-use Rattle.tva_gen.specs.Hosts.{hosts_in}
-use Rattle.tva_gen.specs.Text.{generator_of}
 use Rattle.tva_gen.proofs.Whole.{header_alone, header_and_rows}
 use Rattle.tva_gen.proofs.text.generate.Goals as goal
 

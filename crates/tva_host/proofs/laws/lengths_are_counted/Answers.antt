@@ -1,10 +1,5 @@
-use Rattle.std.proofs.Common.{◌≡◌, ◌+◌, refl, ap, ◌∙◌, arith}
+use Rattle.tva_host.proofs.Common.{◌≡◌, ◌+◌, refl, ap, ◌∙◌, arith, return_size, upper_size, length_of, shim_of, next_shape, next_made, body_of}
 use Rattle.tva_shim.specs.declared.packets.Carried.TheVariants as carried
-use Rattle.tva_shim.specs.Layout.{return_size}
-use Rattle.tva_shim.specs.Packets.{upper_size}
-use Rattle.tva_sender.specs.Shapes.{length_of}
-use Rattle.tva_host.specs.Sending.{shim_of, next_shape, next_made}
-use Rattle.tva_host.specs.Receiving.{body_of}
 use Rattle.tva_host.proofs.Lengths.{made-length, intended-length}
 use Rattle.tva_host.proofs.laws.lengths_are_counted.Goals as goal
 

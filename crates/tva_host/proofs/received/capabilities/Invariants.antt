@@ -1,4 +1,4 @@
-use Rattle.std.proofs.Common.{◌≡◌, length, map, take}
+use Rattle.tva_host.proofs.Common.{◌≡◌, length, map, take}
 use Rattle.tva_caps.specs.Formula.{capability_of}
 use Rattle.tva_host.proofs.received.capabilities.Given as goal
 

@@ -1,4 +1,4 @@
-use Rattle.std.proofs.Common.{◌≡◌, ◌≤◌, take}
+use Rattle.tva_host.proofs.Common.{◌≡◌, ◌≤◌, take}
 use Rattle.arrayvec.specs.ArrayVec.{array_vec_len}
 use Rattle.tva_shim.specs.Changes.{nonzero_tags}
 use Rattle.tva_host.proofs.received.nonzero_tags.Given as goal

@@ -1,4 +1,4 @@
-use Rattle.std.proofs.Common.{◌≡◌, length, map, take}
+use Rattle.tva_host.proofs.Common.{◌≡◌, length, map, take}
 use Rattle.tva_host.proofs.received.precaps_of.Given as goal
 
 -- the pre-capabilities of the entries so far

@@ -1,5 +1,4 @@
-use Rattle.std.proofs.Common.{◌≡◌, subst, arith}
-use Rattle.tva_index.specs.Bits.{links_of, entries_of, IsBelow}
+use Rattle.tva_index.proofs.Common.{◌≡◌, subst, arith, links_of, entries_of, IsBelow}
 use Rattle.tva_index.proofs.Places.{length-entries_of}
 use Rattle.tva_index.proofs.Paths.{below-start, below-on, below_any, below_all, led_within}
 use Rattle.tva_index.proofs.bits.leaf_below.Goals as goal

@@ -1,4 +1,4 @@
-use Rattle.tva_index.specs.Bits.{links_of, entries_of, IsBelow}
+use Rattle.tva_index.proofs.Common.{links_of, entries_of, IsBelow}
 use Rattle.tva_index.proofs.bits.leaf_below.Given as goal
 
 -- the steps so far lead below the place

@@ -1,4 +1,4 @@
-use Rattle.std.proofs.Common.{sym, ◌∙◌, arith}
+use Rattle.tva_index.proofs.Common.{sym, ◌∙◌, arith}
 use Rattle.tva_index.proofs.Places.{low_read, high_read}
 use Rattle.tva_index.proofs.bits.next_below.Goals as goal
 

@@ -1,5 +1,4 @@
-use Rattle.std.proofs.Common.{◌≡◌, ◌++◌, ◌∷◌, [], set, Some, ap, ◌∙◌, sym, subst, arith}
-use Rattle.tva_index.specs.Bits.{numbered, links_of, entries_of, IsKeyTree, IsEnd}
+use Rattle.tva_index.proofs.Common.{◌≡◌, ◌++◌, ◌∷◌, [], set, Some, ap, ◌∙◌, sym, subst, arith, numbered, links_of, entries_of, IsKeyTree, IsEnd}
 use Rattle.tva_index.proofs.Places.{led_to-some}
 use Rattle.tva_index.proofs.Grown.{grown, last_free}
 use Rattle.tva_index.proofs.bits.put.Goals as goal

@@ -1,5 +1,4 @@
-use Rattle.std.proofs.Common.{sym, subst, arith}
-use Rattle.tva_index.specs.Bits.{links_of, entries_of, entry_at, IsEnd, IsKeyTree}
+use Rattle.tva_index.proofs.Common.{sym, subst, arith, links_of, entries_of, entry_at, IsEnd, IsKeyTree}
 use Rattle.tva_index.proofs.Places.{length-entries_of}
 use Rattle.tva_index.proofs.Paths.{has_key}
 use Rattle.tva_index.proofs.Grown.{renumbered, entry_within}

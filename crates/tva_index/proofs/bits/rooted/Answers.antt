@@ -1,5 +1,4 @@
-use Rattle.std.proofs.Common.{◌+◌, ap, ◌∙◌}
-use Rattle.tva_index.specs.Bits.{links_of, entries_of}
+use Rattle.tva_index.proofs.Common.{◌+◌, ap, ◌∙◌, links_of, entries_of}
 use Rattle.tva_index.proofs.Places.{links_of-unused, entries_of-unused}
 use Rattle.tva_index.proofs.Rooted.{none_at, rooted_tree}
 use Rattle.tva_index.proofs.bits.rooted.Goals as goal

@@ -1,4 +1,4 @@
-use Rattle.std.proofs.Common.{refl}
+use Rattle.tva_index.proofs.Common.{refl}
 use Rattle.tva_index.proofs.Places.{links_same, entries_written}
 use Rattle.tva_index.proofs.bits.set_entry.Goals as goal
 

@@ -1,5 +1,4 @@
-use Rattle.std.proofs.Common.{◌≡◌, ◌+◌, ◌*◌, ◌/◌, refl, ap, ◌∙◌, set, arith}
-use Rattle.tva_index.specs.Bits.{led_to, links_of}
+use Rattle.tva_index.proofs.Common.{◌≡◌, ◌+◌, ◌*◌, ◌/◌, refl, ap, ◌∙◌, set, arith, led_to, links_of}
 use Rattle.tva_index.proofs.Places.{low_written, high_written, entries_same}
 use Rattle.tva_index.proofs.bits.set_link.Goals as goal
 

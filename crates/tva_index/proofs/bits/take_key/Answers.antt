@@ -1,5 +1,4 @@
-use Rattle.std.proofs.Common.{◌≡◌, set, Some, None, ap, ◌∙◌, sym, subst}
-use Rattle.tva_index.specs.Bits.{links_of, entries_of, entry_at, IsKeyTree, IsWithout, IsEnd}
+use Rattle.tva_index.proofs.Common.{◌≡◌, set, Some, None, ap, ◌∙◌, sym, subst, links_of, entries_of, entry_at, IsKeyTree, IsWithout, IsEnd}
 use Rattle.tva_index.proofs.Paths.{has_key}
 use Rattle.tva_index.proofs.Pruned.{pruned, without}
 use Rattle.tva_index.proofs.bits.take_key.Goals as goal

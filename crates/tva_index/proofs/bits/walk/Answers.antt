@@ -1,5 +1,4 @@
-use Rattle.std.proofs.Common.{◌≡◌, ◌+◌, ◌*◌, ◌%◌, ◌<◌, ℕ, length, Some, sym, ◌∙◌, subst, arith}
-use Rattle.tva_index.specs.Bits.{HasKey, links_of, entries_of, link_at, spot}
+use Rattle.tva_index.proofs.Common.{◌≡◌, ◌+◌, ◌*◌, ◌%◌, ◌<◌, ℕ, length, Some, sym, ◌∙◌, subst, arith, HasKey, links_of, entries_of, link_at, spot}
 use Rattle.tva_index.proofs.Places.{length-entries_of, entry_read_of, way_read}
 use Rattle.tva_index.proofs.Paths.{stays, goes, stops, later_here, later_end, IsNotBefore}
 use Rattle.tva_index.proofs.bits.walk.Goals as goal

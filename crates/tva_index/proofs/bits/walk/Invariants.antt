@@ -1,5 +1,4 @@
-use Rattle.std.proofs.Common.{◌≡◌, ℕ, ◌<◌, ◌≤◌, Some}
-use Rattle.tva_index.specs.Bits.{HasKey, links_of, entries_of, link_at, entry_at, bits_past, spot}
+use Rattle.tva_index.proofs.Common.{◌≡◌, ℕ, ◌<◌, ◌≤◌, Some, HasKey, links_of, entries_of, link_at, entry_at, bits_past, spot}
 use Rattle.tva_index.proofs.bits.walk.Given as goal
 
 -- the steps so far lead to this place, before which no entry of the key was, and these are the bits that are left

@@ -1,6 +1,4 @@
-use Rattle.std.proofs.Common.{None, length, ◌∙◌, subst, sym, ap, arith}
-use Rattle.std.proofs.lemmas.List.{get_or_read}
-use Rattle.tva_index.specs.Buckets.{IsLastBelow}
+use Rattle.tva_index.proofs.Common.{None, length, ◌∙◌, subst, sym, ap, arith, get_or_read, IsLastBelow}
 use Rattle.tva_index.proofs.Homes.{in_range}
 use Rattle.tva_index.proofs.Chains.{rank, rank-le, step_read, walk_place}
 use Rattle.tva_index.proofs.links.first_above.Goals as goal

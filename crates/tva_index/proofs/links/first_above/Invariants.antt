@@ -1,4 +1,4 @@
-use Rattle.tva_index.specs.Links.{IsWalk}
+use Rattle.tva_index.proofs.Common.{IsWalk}
 use Rattle.tva_index.proofs.Chains.{rank}
 use Rattle.tva_index.proofs.links.first_above.Given as goal
 

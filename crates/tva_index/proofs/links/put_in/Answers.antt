@@ -1,5 +1,4 @@
-use Rattle.std.proofs.Common.{ℕ, Option, Some, List, set, ap, ◌∙◌}
-use Rattle.tva_index.specs.Links.{with_before}
+use Rattle.tva_index.proofs.Common.{ℕ, Option, Some, List, set, ap, ◌∙◌, with_before}
 use Rattle.tva_index.proofs.Chains.{linked-in_is}
 use Rattle.tva_index.proofs.links.put_in.Goals as goal
 

@@ -1,5 +1,4 @@
-use Rattle.std.proofs.Common.{◌<◌, ℕ, Option, Some, None, List, set, length, ap, sym, ◌∙◌, arith}
-use Rattle.std.proofs.lemmas.List.{get_or_read}
+use Rattle.tva_index.proofs.Common.{◌<◌, ℕ, Option, Some, None, List, set, length, ap, sym, ◌∙◌, arith, get_or_read}
 use Rattle.tva_index.proofs.Chains.{home_read, linked-out_is}
 use Rattle.tva_index.proofs.links.take_out.Goals as goal
 

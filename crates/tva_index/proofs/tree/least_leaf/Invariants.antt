@@ -1,4 +1,4 @@
-use Rattle.std.proofs.Common.{◌≡◌, ◌*◌, ◌-◌, ◌<◌, ◌≤◌, map, slice_index}
+use Rattle.tva_index.proofs.Common.{◌≡◌, ◌*◌, ◌-◌, ◌<◌, ◌≤◌, map, slice_index}
 use Rattle.tva_index.proofs.tree.least_leaf.Given as goal
 
 -- this node has the root's number

@@ -1,7 +1,4 @@
-use Rattle.std.proofs.Common.{◌≡◌, ◌+◌, ◌*◌, ◌/◌, ◌∙◌, ℕ, List, get_or, length, drop, map, min, sym, ap, subst, arith}
-use Rattle.std.proofs.lemmas.Bool.{eqb-true}
-use Rattle.std.proofs.lemmas.List.{drop-set-lt, length-map, length-set, map-set}
-use Rattle.tva_index.specs.Tree.{AreNodesBut}
+use Rattle.tva_index.proofs.Common.{◌≡◌, ◌+◌, ◌*◌, ◌/◌, ◌∙◌, ℕ, List, get_or, length, drop, map, min, sym, ap, subst, arith, eqb-true, drop-set-lt, length-map, length-set, map-set, AreNodesBut}
 use Rattle.tva_index.proofs.Nodes.{nodes_all, nodes-mend, number_at}
 use Rattle.tva_index.proofs.tree.mend.Goals as goal
 

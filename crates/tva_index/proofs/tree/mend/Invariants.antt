@@ -1,5 +1,4 @@
-use Rattle.std.proofs.Common.{◌≡◌, ◌*◌, ◌<◌, length, drop, map}
-use Rattle.tva_index.specs.Tree.{AreNodesBut}
+use Rattle.tva_index.proofs.Common.{◌≡◌, ◌*◌, ◌<◌, length, drop, map, AreNodesBut}
 use Rattle.tva_index.proofs.tree.mend.Given as goal
 
 -- all nodes but this one are right, and the numbers below are as they were

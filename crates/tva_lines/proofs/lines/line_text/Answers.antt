@@ -1,4 +1,4 @@
-use Rattle.std.proofs.Common.{ap, arith, length}
+use Rattle.tva_lines.proofs.Common.{ap, arith, length}
 use Rattle.tva_lines.proofs.Printables.{event_printable}
 use Rattle.tva_lines.proofs.Widths.{event_some}
 use Rattle.tva_lines.proofs.lines.line_text.Goals as goal

@@ -1,4 +1,5 @@
-use Rattle.std.proofs.Common.{◌++◌, ◌∷◌, [], codes, decimal}
+use Rattle.tva_lines.proofs.Common.{◌++◌, ◌∷◌, []}
+use Rattle.std.proofs.Common.{codes, decimal}
 use Rattle.tva_lines.proofs.Joins.{put_in_parts}
 use Rattle.tva_lines.proofs.lines.put_totals.Goals as goal
 

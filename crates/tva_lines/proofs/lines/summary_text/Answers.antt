@@ -1,4 +1,4 @@
-use Rattle.std.proofs.Common.{ap, arith, length}
+use Rattle.tva_lines.proofs.Common.{ap, arith, length}
 use Rattle.tva_lines.proofs.Printables.{totals_printable}
 use Rattle.tva_lines.proofs.Widths.{totals_some}
 use Rattle.tva_lines.proofs.lines.summary_text.Goals as goal

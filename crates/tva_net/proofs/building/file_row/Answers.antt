@@ -1,9 +1,5 @@
-use Rattle.std.proofs.Common.{◌≡◌, ◌<◌, ◌∷◌, [], length, get_or, set, sym, subst, ◌∙◌}
-use Rattle.std.proofs.lemmas.List.{get_or_default}
-use Rattle.tva_log.specs.declared.kinds.Input.TheVariants.{FromTrace}
-use Rattle.tva_node.specs.States.{NodeState}
-use Rattle.tva_mail.specs.Mail.{GotMail, GotMails, KeepsWork, mail_at}
-use Rattle.tva_mail.proofs.Mails.{got_at, keeps_same, kept_by, zip_set}
+use Rattle.tva_net.proofs.Common.{◌≡◌, ◌<◌, ◌∷◌, [], length, get_or, set, sym, subst, ◌∙◌, get_or_default, FromTrace, NodeState, GotMail, GotMails, KeepsWork, mail_at}
+use Rattle.tva_net.proofs.Mails.{got_at, keeps_same, kept_by, zip_set}
 use Rattle.tva_net.proofs.Firsts.{some_row}
 use Rattle.tva_net.proofs.building.file_row.Goals as goal
 

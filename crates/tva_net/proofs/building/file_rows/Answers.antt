@@ -1,12 +1,7 @@
-use Rattle.std.proofs.Common.{◌≡◌, ◌+◌, ◌∷◌, [], List, drop, get_or, ◌∙◌, ap, arith}
-use Rattle.std.proofs.lemmas.List.{get_or_default}
-use Rattle.tva_rows.specs.declared.rows.Row.{Row}
-use Rattle.tva_log.specs.declared.kinds.Input.TheVariants.{FromTrace}
-use Rattle.tva_run.specs.Reaching.{rows_at}
-use Rattle.tva_mail.specs.Mail.{KeepsWork, mail_at}
+use Rattle.tva_net.proofs.Common.{◌≡◌, ◌+◌, ◌∷◌, [], List, drop, get_or, ◌∙◌, ap, arith, get_or_default, Row, FromTrace, rows_at, KeepsWork, mail_at}
 use Rattle.tva_net.proofs.Firsts.{row_first, row_left, some_row}
-use Rattle.tva_mail.proofs.Lists.{zip_same}
-use Rattle.tva_mail.proofs.Mails.{all_keep, going_first, going_more, keeps_same, still_delivers}
+use Rattle.tva_net.proofs.PostedLists.{zip_same}
+use Rattle.tva_net.proofs.Mails.{all_keep, going_first, going_more, keeps_same, still_delivers}
 use Rattle.tva_net.proofs.building.file_rows.Goals as goal
 
 pub loop-place-init : goal.loop-place-init

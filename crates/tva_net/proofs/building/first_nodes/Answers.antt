@@ -1,9 +1,4 @@
-use Rattle.std.proofs.Common.{rules, ◌≡◌, [], List, length, sym, subst, ◌∙◌, ap}
-use Rattle.std.proofs.lemmas.List.{with_items_is}
-use Rattle.tva_node.specs.States.{NodeState}
-use Rattle.tva_run.specs.Reaching.{rows_at}
-use Rattle.tva_mail.specs.Mail.{GotMails}
-use Rattle.tva_net.specs.Built.{AreFirstNodes}
+use Rattle.tva_net.proofs.Common.{rules, ◌≡◌, [], List, length, sym, subst, ◌∙◌, ap, with_items_is, NodeState, rows_at, GotMails, AreFirstNodes}
 use Rattle.tva_net.proofs.Firsts.{row_there, rows_deliver, with_rows}
 use Rattle.tva_net.proofs.building.first_nodes.Goals as goal
 

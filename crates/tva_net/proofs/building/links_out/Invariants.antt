@@ -1,6 +1,5 @@
-use Rattle.std.proofs.Common.{◌≡◌, ◌++◌, drop}
+use Rattle.tva_net.proofs.Common.{◌≡◌, ◌++◌, drop, link_from}
 use Rattle.tva_plan.specs.Wiring.{picked}
-use Rattle.tva_run.specs.Reaching.{link_from}
 use Rattle.tva_net.proofs.building.links_out.Given as goal
 
 abbrev pub invariant-loop-i : goal.invariant-loop-i

@@ -1,4 +1,4 @@
-use Rattle.std.proofs.Common.{◌≡◌}
+use Rattle.tva_net.proofs.Common.{◌≡◌}
 use Rattle.tva_net.proofs.building.make_room.Given as goal
 
 abbrev pub invariant-loop-place : goal.invariant-loop-place

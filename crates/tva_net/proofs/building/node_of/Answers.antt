@@ -1,6 +1,4 @@
-use Rattle.std.proofs.Common.{◌≡◌, List, get_or, length, sym, ◌∙◌, ap}
-use Rattle.tva_plan.specs.declared.config.NodePlan.{NodePlan}
-use Rattle.tva_run.specs.Reaching.{links_out}
+use Rattle.tva_net.proofs.Common.{◌≡◌, List, get_or, length, sym, ◌∙◌, ap, NodePlan, links_out}
 use Rattle.tva_net.proofs.Firsts.{site_fits, site_there}
 use Rattle.tva_net.proofs.building.node_of.Goals as goal
 

@@ -1,7 +1,4 @@
-use Rattle.std.proofs.Common.{◌≡◌, ℕ, ◌+◌, ◌<◌, ◌++◌, ◌∷◌, [], All, List, length, get_or, sym, subst, ap, arith}
-use Rattle.std.proofs.lemmas.List.{length_push}
-use Rattle.tva_node.specs.States.{NodeState}
-use Rattle.tva_net.specs.Built.{IsFirstNode}
+use Rattle.tva_net.proofs.Common.{◌≡◌, ℕ, ◌+◌, ◌<◌, ◌++◌, ◌∷◌, [], All, List, length, get_or, sym, subst, ap, arith, length_push, NodeState, IsFirstNode}
 use Rattle.tva_net.proofs.Firsts.{firsts_more, kept_more}
 use Rattle.tva_net.proofs.building.nodes_of.Goals as goal
 

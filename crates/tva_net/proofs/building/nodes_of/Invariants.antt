@@ -1,6 +1,4 @@
-use Rattle.std.proofs.Common.{◌≡◌, ℕ, ◌<◌, [], All, length, get_or}
-use Rattle.tva_node.specs.States.{NodeState}
-use Rattle.tva_net.specs.Built.{IsFirstNode}
+use Rattle.tva_net.proofs.Common.{◌≡◌, ℕ, ◌<◌, [], All, length, get_or, NodeState, IsFirstNode}
 use Rattle.tva_net.proofs.building.nodes_of.Given as goal
 
 abbrev pub invariant-loop-number : goal.invariant-loop-number

@@ -1,7 +1,4 @@
-use Rattle.std.proofs.Common.{◌≡◌, ℕ, ◌+◌, ◌<◌, List, length, take, get_or, set, sym, subst, ◌∙◌, ap, arith, length-take}
-use Rattle.std.proofs.lemmas.List.{get_or_default}
-use Rattle.tva_run.specs.Reaching.{rows_at}
-use Rattle.tva_net.specs.Built.{AreRowCounts}
+use Rattle.tva_net.proofs.Common.{◌≡◌, ℕ, ◌+◌, ◌<◌, List, length, take, get_or, set, sym, subst, ◌∙◌, ap, arith, length-take, get_or_default, rows_at, AreRowCounts}
 use Rattle.tva_net.proofs.Counts.{all_more}
 use Rattle.tva_net.proofs.Firsts.{rows_few, some_row}
 use Rattle.tva_net.proofs.building.row_counts.Goals as goal

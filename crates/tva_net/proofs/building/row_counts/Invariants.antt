@@ -1,5 +1,4 @@
-use Rattle.std.proofs.Common.{take}
-use Rattle.tva_net.specs.Built.{AreRowCounts}
+use Rattle.tva_net.proofs.Common.{take, AreRowCounts}
 use Rattle.tva_net.proofs.building.row_counts.Given as goal
 
 abbrev pub invariant-loop-place : goal.invariant-loop-place

@@ -1,5 +1,4 @@
-use Rattle.std.proofs.Common.{◌≡◌, ℕ, ◌+◌, sym, subst, arith}
-use Rattle.tva_net.specs.Work.{AreAllPlaces}
+use Rattle.tva_net.proofs.Common.{◌≡◌, ℕ, ◌+◌, sym, subst, arith, AreAllPlaces}
 use Rattle.tva_net.proofs.Places.{all_more}
 use Rattle.tva_net.proofs.due.all_places.Goals as goal
 

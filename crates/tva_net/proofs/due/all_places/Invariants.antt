@@ -1,4 +1,4 @@
-use Rattle.tva_net.specs.Work.{AreAllPlaces}
+use Rattle.tva_net.proofs.Common.{AreAllPlaces}
 use Rattle.tva_net.proofs.due.all_places.Given as goal
 
 abbrev pub invariant-loop-place : goal.invariant-loop-place

@@ -1,6 +1,4 @@
-use Rattle.std.proofs.Common.{◌≡◌, ℕ, ◌<◌, ◌≤◌, List, Err, length, get_or, sym, subst}
-use Rattle.std.proofs.lemmas.List.Sorted.{searched}
-use Rattle.tva_net.specs.Work.{IsPutAmong}
+use Rattle.tva_net.proofs.Common.{◌≡◌, ℕ, ◌<◌, ◌≤◌, List, Err, length, get_or, sym, subst, searched, IsPutAmong}
 use Rattle.tva_net.proofs.Places.{put_new, rises_sorted}
 use Rattle.tva_net.proofs.due.put_place.Goals as goal
 

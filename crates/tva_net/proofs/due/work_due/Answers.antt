@@ -1,4 +1,4 @@
-use Rattle.std.proofs.Common.{arith}
+use Rattle.tva_net.proofs.Common.{arith}
 use Rattle.tva_net.proofs.Worked.{all_worked, kept_more, less_left, none_worked, one_more}
 use Rattle.tva_net.proofs.due.work_due.Goals as goal
 

@@ -1,6 +1,4 @@
-use Rattle.std.proofs.Common.{◌-◌}
-use Rattle.std.specs.List.{sum_by}
-use Rattle.tva_mail.specs.Times.{AreNoted}
+use Rattle.tva_net.proofs.Common.{◌-◌, sum_by, AreNoted}
 use Rattle.tva_net.proofs.Worked.{AreWorkedSoFar}
 use Rattle.tva_net.proofs.due.work_due.Given as goal
 

@@ -1,9 +1,8 @@
-use Rattle.std.proofs.Common.{length-set, arith}
-use Rattle.std.proofs.lemmas.List.Elements.{All-from_recursion}
-use Rattle.tva_node.specs.States.{Stands}
+use Rattle.tva_net.proofs.Common.{arith, All-from_recursion, Stands}
+use Rattle.std.proofs.Common.{length-set}
 use Rattle.tva_net.proofs.Worked.{kept_at, worked_at}
-use Rattle.tva_mail.proofs.Mails.{same_but}
-use Rattle.tva_mail.proofs.Noted.{noted_after}
+use Rattle.tva_net.proofs.Mails.{same_but}
+use Rattle.tva_net.proofs.Noted.{noted_after}
 use Rattle.tva_net.proofs.due.work_one.Goals as goal
 
 pub advance-requires : goal.advance-requires

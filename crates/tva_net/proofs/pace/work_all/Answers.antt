@@ -1,7 +1,6 @@
-use Rattle.std.proofs.Common.{◌∙◌, sym, arith}
-use Rattle.tva_node.specs.States.{Keeps}
+use Rattle.tva_net.proofs.Common.{◌∙◌, sym, arith, Keeps}
 use Rattle.tva_net.proofs.Worked.{all_advanced}
-use Rattle.tva_mail.proofs.Lists.{zip_length}
+use Rattle.tva_net.proofs.PostedLists.{zip_length}
 use Rattle.tva_net.proofs.pace.work_all.Goals as goal
 
 pub note_all-requires-clause-few : goal.note_all-requires-clause-few

@@ -1,5 +1,4 @@
-use Rattle.std.proofs.Common.{◌≡◌, ◌+◌, ◌∙◌, ap, arith}
-use Rattle.tva_base.specs.declared.event.Totals.{Totals}
+use Rattle.tva_net.proofs.Common.{◌≡◌, ◌+◌, ◌∙◌, ap, arith, Totals}
 use Rattle.tva_net.proofs.Adding.{adds_more}
 use Rattle.tva_net.proofs.sums.add_up.Goals as goal
 

@@ -1,7 +1,4 @@
-use Rattle.std.proofs.Common.{◌≡◌, ◌+◌, ◌++◌, List, take}
-use Rattle.tva_base.specs.declared.event.Event.{Event}
-use Rattle.tva_run.specs.Report.{totals_of}
-use Rattle.tva_net.specs.Sums.{AreWithin}
+use Rattle.tva_net.proofs.Common.{◌≡◌, ◌+◌, ◌++◌, List, take, Event, totals_of, AreWithin}
 use Rattle.tva_net.proofs.sums.add_up.Given as goal
 
 abbrev pub invariant-loop-event : goal.invariant-loop-event

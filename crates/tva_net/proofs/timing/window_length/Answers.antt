@@ -1,4 +1,4 @@
-use Rattle.std.proofs.Common.{◌+◌}
+use Rattle.tva_net.proofs.Common.{◌+◌}
 use Rattle.tva_net.proofs.Delays.{least_next}
 use Rattle.tva_net.proofs.timing.window_length.Goals as goal
 

@@ -1,5 +1,4 @@
-use Rattle.std.proofs.Common.{◌≡◌, ◌+◌, take}
-use Rattle.tva_run.specs.Windows.{least_delay}
+use Rattle.tva_net.proofs.Common.{◌≡◌, ◌+◌, take, least_delay}
 use Rattle.tva_net.proofs.timing.window_length.Given as goal
 
 abbrev pub invariant-loop-link : goal.invariant-loop-link

@@ -1,13 +1,8 @@
-use Rattle.std.proofs.Common.{ℕ, [], List, All, length, subst, sym, arith}
-use Rattle.std.specs.Prelude.{flat_map}
-use Rattle.tva_log.specs.declared.kinds.Sending.{Sending}
-use Rattle.tva_node.specs.States.{unsent}
-use Rattle.tva_mail.specs.Mail.{GotMails, HandedOut, IsPostable, mail_to}
-use Rattle.tva_mail.specs.Places.{ArePlaces, AreQuietElsewhere}
-use Rattle.tva_mail.proofs.Forgotten.{got_handed, handed_keeps, handed_then_got, noted_handed}
-use Rattle.tva_mail.proofs.Handed.{all_handed_on, handed_elsewhere, handed_unsent}
-use Rattle.tva_mail.proofs.Lists.{zip_length}
-use Rattle.tva_mail.proofs.Mails.{postables_still}
+use Rattle.tva_net.proofs.Common.{ℕ, [], List, All, length, subst, sym, arith, flat_map, Sending, unsent, GotMails, HandedOut, IsPostable, mail_to, ArePlaces, AreQuietElsewhere}
+use Rattle.tva_net.proofs.Forgotten.{got_handed, handed_keeps, handed_then_got, noted_handed}
+use Rattle.tva_net.proofs.Handed.{all_handed_on, handed_elsewhere, handed_unsent}
+use Rattle.tva_net.proofs.PostedLists.{zip_length}
+use Rattle.tva_net.proofs.Mails.{postables_still}
 use Rattle.tva_net.proofs.Ends.{all_stand, few, mids_few, mids_numbered, mids_stand, postable, quiet_elsewhere, reach, told_kept, told_more, told_posted}
 use Rattle.tva_net.proofs.works.work_nodes.Goals as goal
 

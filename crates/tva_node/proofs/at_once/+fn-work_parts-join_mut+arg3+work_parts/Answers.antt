@@ -1,4 +1,4 @@
-use Rattle.std.proofs.Crossing.{crosses}
+use Rattle.tva_node.proofs.Common.{crosses}
 use denote.Param.Send.{sendable}
 use Rattle.tva_node.proofs.Crosses.{node_send}
 use Rattle.tva_node.proofs.at_once.+fn-work_parts-join_mut+arg3+work_parts.Goals as goal

@@ -1,4 +1,4 @@
-use Rattle.std.proofs.Common.{length}
+use Rattle.tva_node.proofs.Common.{length}
 use Rattle.tva_node.proofs.at_once.+fn-work_parts-join_mut+arg3+work_parts.Given as goal
 
 abbrev pub decreases-work_parts : goal.decreases-work_parts

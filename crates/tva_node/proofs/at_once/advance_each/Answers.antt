@@ -1,5 +1,4 @@
-use Rattle.std.proofs.Common.{◌<◌, length, get_or, sym, subst, arith, ◌∙◌, length-set}
-use Rattle.tva_node.specs.States.{NodeState, IsAdvanced, Keeps}
+use Rattle.tva_node.proofs.Common.{◌<◌, length, get_or, sym, subst, arith, ◌∙◌, length-set, NodeState, IsAdvanced, Keeps}
 use Rattle.tva_node.proofs.Zips.{keeps_same, rest_more, zip_more, zip_whole}
 use Rattle.tva_node.proofs.at_once.advance_each.Goals as goal
 

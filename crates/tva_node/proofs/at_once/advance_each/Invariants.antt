@@ -1,6 +1,4 @@
-use Rattle.std.proofs.Common.{◌≡◌, length, take, drop}
-use Rattle.std.specs.List.{AllZip}
-use Rattle.tva_node.specs.States.{IsAdvanced, Keeps}
+use Rattle.tva_node.proofs.Common.{◌≡◌, length, take, drop, AllZip, IsAdvanced, Keeps}
 use Rattle.tva_node.proofs.at_once.advance_each.Given as goal
 
 abbrev pub invariant-loop-place : goal.invariant-loop-place

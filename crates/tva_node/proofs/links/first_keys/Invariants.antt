@@ -1,5 +1,4 @@
-use Rattle.std.proofs.Common.{◌≡◌, ℕ, ◌<◌, None, length, get_or}
-use Rattle.tva_node.specs.Links.{IsKey}
+use Rattle.tva_node.proofs.Common.{◌≡◌, ℕ, ◌<◌, None, length, get_or, IsKey}
 use Rattle.tva_node.proofs.links.first_keys.Given as goal
 
 abbrev pub invariant-loop-place : goal.invariant-loop-place

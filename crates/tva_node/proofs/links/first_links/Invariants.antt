@@ -1,6 +1,4 @@
-use Rattle.std.proofs.Common.{◌≡◌, ◌<◌, All, map, take}
-use Rattle.tva_node.specs.declared.links.Link.{Link}
-use Rattle.tva_node.specs.Links.{first_link}
+use Rattle.tva_node.proofs.Common.{◌≡◌, ◌<◌, All, map, take, Link, first_link}
 use Rattle.tva_node.proofs.links.first_links.Given as goal
 
 abbrev pub invariant-loop-number : goal.invariant-loop-number

@@ -1,4 +1,4 @@
-use Rattle.std.proofs.Common.{rules, ◌<◌, ◌+◌, ◌-◌, ◌/◌, length, arith}
+use Rattle.tva_node.proofs.Common.{rules, ◌<◌, ◌+◌, ◌-◌, ◌/◌, length, arith}
 use Rattle.tva_node.proofs.Asked.{high_from, low_to}
 use Rattle.tva_node.proofs.links.rank_of.Goals as goal
 

@@ -1,5 +1,4 @@
-use Rattle.std.proofs.Common.{◌-◌, ℕ, ◌≤◌, ◌<◌, get_or, length}
-use Rattle.tva_node.specs.declared.links.Link.{Link}
+use Rattle.tva_node.proofs.Common.{◌-◌, ℕ, ◌≤◌, ◌<◌, get_or, length, Link}
 use Rattle.tva_node.proofs.links.rank_of.Given as goal
 
 abbrev pub invariant-loop-low : goal.invariant-loop-low

@@ -1,12 +1,4 @@
-use Rattle.std.proofs.Common.{ℕ, List, Some, sym, subst, ◌∙◌, ap}
-use Rattle.tva_base.specs.declared.limits.LinkLimits.{LinkLimits}
-use Rattle.tva_base.specs.declared.plan.HostPlan.{HostPlan}
-use Rattle.tva_base.specs.declared.addresses.Prefix.{Prefix}
-use Rattle.tva_base.specs.declared.packet.Time.{Time}
-use Rattle.tva_plan.specs.declared.config.NodePlan.{NodePlan}
-use Rattle.tva_port.specs.Stands.{PortData}
-use Rattle.tva_log.specs.Sites.{IsPlanned}
-use Rattle.tva_node.specs.Changes.{AreByTime}
+use Rattle.tva_node.proofs.Common.{ℕ, List, Some, sym, subst, ◌∙◌, ap, LinkLimits, HostPlan, Prefix, Time, NodePlan, PortData, IsPlanned, AreByTime}
 use Rattle.tva_node.proofs.Making.{routed_first}
 use Rattle.tva_node.proofs.Posts.{first_out, first_valid}
 use Rattle.tva_node.proofs.node.role_of.Goals as goal

@@ -1,4 +1,4 @@
-use Rattle.std.proofs.Common.{◌≡◌, ◌++◌, take}
+use Rattle.tva_node.proofs.Common.{◌≡◌, ◌++◌, take}
 use Rattle.tva_node.proofs.outbox.copy_each.Given as goal
 
 abbrev pub invariant-loop-sending : goal.invariant-loop-sending

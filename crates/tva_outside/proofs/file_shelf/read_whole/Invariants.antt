@@ -1,5 +1,4 @@
-use Rattle.std.proofs.Common.{◌≤◌, vec_len}
-use Rattle.std.specs.Io.KnownBytes.{Consumes}
+use Rattle.tva_outside.proofs.Common.{◌≤◌, vec_len, Consumes}
 use Rattle.tva_outside.proofs.file_shelf.read_whole.Given as goal
 
 -- what is read so far is within the limit, and is what the reader has given

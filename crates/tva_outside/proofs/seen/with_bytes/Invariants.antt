@@ -1,4 +1,4 @@
-use Rattle.std.proofs.Common.{◌≡◌, ◌++◌, take}
+use Rattle.tva_outside.proofs.Common.{◌≡◌, ◌++◌, take}
 use Rattle.tva_outside.specs.Seen.{all_behind}
 use Rattle.tva_outside.proofs.seen.with_bytes.Given as goal
 

@@ -1,5 +1,4 @@
-use Rattle.std.proofs.Common.{◌≡◌, ◌≤◌, ◌*◌, ◌^◌, take, sum_by}
-use Rattle.tva_plan.specs.Counts.{routes_in}
+use Rattle.tva_plan.proofs.Common.{◌≡◌, ◌≤◌, ◌*◌, ◌^◌, take, sum_by, routes_in}
 use Rattle.tva_plan.proofs.counts.route_count.Given as goal
 
 abbrev pub invariant-loop-node : goal.invariant-loop-node

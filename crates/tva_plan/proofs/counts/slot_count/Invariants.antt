@@ -1,5 +1,4 @@
-use Rattle.std.proofs.Common.{◌≡◌, ◌≤◌, ◌*◌, ◌^◌, take, sum_by}
-use Rattle.tva_plan.specs.Counts.{slots_in}
+use Rattle.tva_plan.proofs.Common.{◌≡◌, ◌≤◌, ◌*◌, ◌^◌, take, sum_by, slots_in}
 use Rattle.tva_plan.proofs.counts.slot_count.Given as goal
 
 abbrev pub invariant-loop-node : goal.invariant-loop-node

@@ -1,4 +1,4 @@
-use Rattle.std.proofs.Common.{◌≡◌, arith}
+use Rattle.tva_plan.proofs.Common.{◌≡◌, arith}
 use Rattle.std.proofs.lemmas.Map.Text.{hash_map_updates_str}
 use Rattle.tva_plan.proofs.Named.{named_from-before}
 use Rattle.tva_plan.proofs.names.node_numbers.Goals as goal

@@ -1,4 +1,4 @@
-use Rattle.std.proofs.Common.{◌≤◌, length, drop}
+use Rattle.tva_plan.proofs.Common.{◌≤◌, length, drop}
 use Rattle.tva_plan.specs.Numbers.{NumbersFrom}
 use Rattle.tva_plan.proofs.names.node_numbers.Given as goal
 

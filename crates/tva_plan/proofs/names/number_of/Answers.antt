@@ -1,5 +1,4 @@
-use Rattle.std.proofs.Common.{◌∙◌, sym, subst, ◌<◌, length, ℕ, Option, IfSome, zero-add}
-use Rattle.tva_plan.specs.Names.{node_named}
+use Rattle.tva_plan.proofs.Common.{◌∙◌, sym, subst, ◌<◌, length, ℕ, Option, IfSome, zero-add, node_named}
 use Rattle.tva_plan.proofs.Named.{named_from-within}
 use Rattle.tva_plan.proofs.names.number_of.Goals as goal
 

@@ -1,5 +1,4 @@
-use Rattle.std.proofs.Common.{◌≡◌, take}
-use Rattle.std.specs.List.{list_any}
+use Rattle.tva_policy.proofs.Common.{◌≡◌, take, list_any}
 use Rattle.std.specs.BTreeMap.{is_at}
 use Rattle.tva_policy.proofs.sets.set_of.Given as goal
 

@@ -1,4 +1,4 @@
-use Rattle.tva_base.specs.declared.packet.Class.TheVariants.{Request, Regular}
+use Rattle.tva_port.proofs.Common.{Request, Regular}
 use Rattle.tva_port.proofs.Evenly.{even}
 use Rattle.tva_port.proofs.bounds.keys_are_served_alike.Goals as goal
 

@@ -1,6 +1,4 @@
-use Rattle.std.proofs.Common.{refl}
-use Rattle.tva_port.specs.Log.{free_after}
-use Rattle.tva_port.specs.Decide.{decision, after_decision}
+use Rattle.tva_port.proofs.Common.{refl, free_after, decision, after_decision}
 use Rattle.tva_port.proofs.Steady.{steady, rests_after, misses_after, none_again}
 use Rattle.tva_port.proofs.laws.links_rest.Goals as goal
 

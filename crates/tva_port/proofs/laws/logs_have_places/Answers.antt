@@ -1,4 +1,4 @@
-use Rattle.std.proofs.Common.{[]}
+use Rattle.tva_port.proofs.Common.{[]}
 use Rattle.tva_port.proofs.Logs.{legal-front, legal-here}
 use Rattle.tva_port.proofs.laws.logs_have_places.Goals as goal
 

@@ -1,4 +1,4 @@
-use Rattle.std.proofs.Common.{◌++◌, refl}
+use Rattle.tva_port.proofs.Common.{◌++◌, refl}
 use Rattle.tva_port.proofs.Limits.{stays_within}
 use Rattle.tva_port.proofs.laws.queues_keep_limits.Goals as goal
 

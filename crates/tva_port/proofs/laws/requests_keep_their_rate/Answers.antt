@@ -1,4 +1,4 @@
-use Rattle.std.proofs.Common.{[]}
+use Rattle.tva_port.proofs.Common.{[]}
 use Rattle.tva_port.proofs.Logs.{legal-front}
 use Rattle.tva_port.proofs.Legality.{rate_kept}
 use Rattle.tva_port.proofs.laws.requests_keep_their_rate.Goals as goal

@@ -1,4 +1,4 @@
-use Rattle.std.proofs.Common.{[]}
+use Rattle.tva_port.proofs.Common.{[]}
 use Rattle.tva_port.proofs.Logs.{legal-front}
 use Rattle.tva_port.proofs.Legality.{starts_apart}
 use Rattle.tva_port.proofs.laws.starts_rise.Goals as goal

@@ -1,8 +1,4 @@
-use Rattle.std.proofs.Common.{ℕ, ap, ◌∙◌}
-use Rattle.tva_shim.specs.Packets.{PacketData, packet_length}
-use Rattle.tva_shim.specs.Shows.{inner_key_of}
-use Rattle.tva_hier.specs.Groups.{Hier}
-use Rattle.tva_hier.specs.Offer.{answer_to_offer, left_by_offer}
+use Rattle.tva_port.proofs.Common.{ℕ, ap, ◌∙◌, PacketData, packet_length, inner_key_of, Hier, answer_to_offer, left_by_offer}
 use Rattle.tva_port.proofs.Hands.{same_packet}
 use Rattle.tva_port.proofs.Limits.{left_same}
 use Rattle.tva_port.proofs.requests.offer_within.Goals as goal

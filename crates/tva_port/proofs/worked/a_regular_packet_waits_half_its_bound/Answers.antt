@@ -1,5 +1,4 @@
-use Rattle.std.proofs.Common.{refl}
-use Rattle.std.proofs.lemmas.Bool.{leb-true}
+use Rattle.tva_port.proofs.Common.{refl, leb-true}
 use Rattle.tva_port.proofs.Played.{three_valid, regulars_played}
 use Rattle.tva_port.proofs.worked.a_regular_packet_waits_half_its_bound.Goals as goal
 

@@ -1,6 +1,4 @@
-use Rattle.std.proofs.Common.{refl}
-use Rattle.std.proofs.lemmas.Bool.{leb-true}
-use Rattle.tva_shim.specs.Layout.{layout, two_bytes, eight_bytes}
+use Rattle.tva_port.proofs.Common.{refl, leb-true, layout, two_bytes, eight_bytes}
 use Rattle.tva_port.proofs.Played.{levels_valid, requests_played}
 use Rattle.tva_port.proofs.worked.a_request_waits_half_its_bound_on_two_levels.Goals as goal
 

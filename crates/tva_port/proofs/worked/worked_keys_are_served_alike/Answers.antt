@@ -1,4 +1,4 @@
-use Rattle.std.proofs.Common.{refl}
+use Rattle.tva_port.proofs.Common.{refl}
 use Rattle.tva_port.proofs.Played.{three_valid, regulars_played}
 use Rattle.tva_port.proofs.worked.worked_keys_are_served_alike.Goals as goal
 

@@ -1,5 +1,4 @@
-use Rattle.std.proofs.Common.{sym, ◌∙◌, ap}
-use Rattle.tva_report.specs.Lines.{report_lines, text_of}
+use Rattle.tva_report.proofs.Common.{sym, ◌∙◌, ap, report_lines, text_of}
 use Rattle.tva_report.proofs.Differing.{none_of_same, same_of_none}
 use Rattle.tva_report.proofs.LinesBack.{good_back, lines_made}
 use Rattle.tva_report.proofs.laws.report_is_what_is_expected.Goals as goal

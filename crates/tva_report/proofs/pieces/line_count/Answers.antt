@@ -1,7 +1,4 @@
-use Rattle.std.proofs.Common.{◌≤◌, length, ap, ◌∙◌, arith}
-use Rattle.std.specs.Prelude.{count_by}
-use Rattle.std.proofs.lemmas.List.{take_all}
-use Rattle.tva_report.specs.Lines.{is_feed}
+use Rattle.tva_report.proofs.Common.{◌≤◌, length, ap, ◌∙◌, arith, count_by, take_all, is_feed}
 use Rattle.tva_report.proofs.Feeds.{feeds_of_lines}
 use Rattle.tva_report.proofs.pieces.line_count.Goals as goal
 

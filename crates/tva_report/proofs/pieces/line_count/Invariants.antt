@@ -1,6 +1,4 @@
-use Rattle.std.proofs.Common.{◌≡◌, ◌≤◌, take}
-use Rattle.std.specs.Prelude.{count_by}
-use Rattle.tva_report.specs.Lines.{is_feed}
+use Rattle.tva_report.proofs.Common.{◌≡◌, ◌≤◌, take, count_by, is_feed}
 use Rattle.tva_report.proofs.pieces.line_count.Given as goal
 
 -- the line feeds up to here

@@ -1,9 +1,4 @@
-use Rattle.std.proofs.Common.{ℕ, List, sym, subst}
-use Rattle.std.specs.List.{All}
-use Rattle.tva_base.specs.declared.limits.LinkLimits.{LinkLimits}
-use Rattle.tva_base.specs.declared.plan.Route.{Route}
-use Rattle.tva_base.specs.Plan.{IsPrefix}
-use Rattle.tva_router.specs.Tables.{ArePlaces, IsTableOf}
+use Rattle.tva_router.proofs.Common.{ℕ, List, sym, subst, All, LinkLimits, Route, IsPrefix, ArePlaces, IsTableOf}
 use Rattle.tva_router.proofs.finding.ways_of.Goals as goal
 
 pub table_of-requires : goal.table_of-requires

@@ -1,5 +1,4 @@
-use Rattle.std.proofs.Common.{ℕ, Option, eqb, sym, ap, ◌∙◌}
-use Rattle.std.specs.Option.{option_map_or}
+use Rattle.tva_router.proofs.Common.{ℕ, Option, eqb, sym, ap, ◌∙◌, option_map_or}
 use Rattle.tva_router.proofs.Links.{find_there, find_nowhere}
 use Rattle.tva_router.proofs.guard.tag_in.Goals as goal
 

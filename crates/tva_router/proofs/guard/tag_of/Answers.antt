@@ -1,7 +1,4 @@
-use Rattle.std.proofs.Common.{◌≡◌, ℕ, List, ◌==◌, sym, subst}
-use Rattle.std.specs.List.{find}
-use Rattle.std.specs.Option.{option_map_or}
-use Rattle.tva_router.specs.Tables.{ArePlaces}
+use Rattle.tva_router.proofs.Common.{◌≡◌, ℕ, List, ◌==◌, sym, subst, find, option_map_or, ArePlaces}
 use Rattle.tva_router.proofs.guard.tag_of.Goals as goal
 
 pub tag_in-requires : goal.tag_in-requires

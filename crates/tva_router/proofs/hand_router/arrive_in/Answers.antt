@@ -1,16 +1,7 @@
-use Rattle.std.proofs.Common.{◌≡◌, Some, false, leb, ◌++◌, refl, sym, ap, ◌∙◌, subst}
-use Rattle.tva_base.specs.declared.packet.Fate.{Fate}
-use Rattle.tva_shim.specs.Packets.{PacketData}
+use Rattle.tva_router.proofs.Common.{◌≡◌, Some, false, leb, ◌++◌, refl, sym, ap, ◌∙◌, subst, Fate, PacketData, Arrival, Judged, judge, nonce_in, Handled, arrival, fate_of, goes_on, handle, kept_after, sent, queued, way_to, router_data, IsByPlan, StandsFor, StandForLogs, ◌with◌, IsGuard, Keeps, judged_with}
 use Rattle.tva_shim.specs.Fields.{packet_of_fields}
-use Rattle.tva_router.specs.declared.judged.Arrival.{Arrival}
-use Rattle.tva_router.specs.declared.judged.Judged.{Judged}
-use Rattle.tva_router.specs.Judging.{judge}
-use Rattle.tva_shim.specs.Shows.{nonce_in}
 use Rattle.tva_port.proofs.Hands.{same_packet}
 use Rattle.tva_port.specs.Held.{packet_in}
-use Rattle.tva_router.specs.Handling.{Handled, arrival, fate_of, goes_on, handle, kept_after, sent, queued, way_to}
-use Rattle.tva_router.specs.Stands.{router_data, IsByPlan, StandsFor, StandForLogs, ◌with◌}
-use Rattle.tva_router.specs.Steps.{IsGuard, Keeps, judged_with}
 use Rattle.tva_router.proofs.Ports.{ports-later}
 use Rattle.tva_router.proofs.Handled.{sound-later, handle-stopped, stands-stopped, fate-forwarded, onward-forwarded, stands-forwarded, by-plan}
 use Rattle.tva_router.proofs.hand_router.arrive_in.Goals as goal

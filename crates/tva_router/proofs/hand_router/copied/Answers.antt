@@ -1,5 +1,4 @@
-use Rattle.std.proofs.Common.{rules, ◌≡◌, ◌∙◌}
-use Rattle.std.specs.List.{each_same}
+use Rattle.tva_router.proofs.Common.{rules, ◌≡◌, ◌∙◌, each_same}
 use Rattle.tva_router.proofs.Copies.{restart_copied}
 use Rattle.tva_router.proofs.hand_router.copied.Goals as goal
 

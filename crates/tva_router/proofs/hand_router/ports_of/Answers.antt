@@ -1,5 +1,4 @@
-use Rattle.std.proofs.Common.{◌≡◌, ap, arith}
-use Rattle.tva_port.specs.Stands.{PortData}
+use Rattle.tva_router.proofs.Common.{◌≡◌, ap, arith, PortData}
 use Rattle.tva_router.proofs.Ports.{ports-more}
 use Rattle.tva_router.proofs.hand_router.ports_of.Goals as goal
 

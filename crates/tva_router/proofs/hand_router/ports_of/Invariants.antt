@@ -1,6 +1,4 @@
-use Rattle.std.proofs.Common.{take, []}
-use Rattle.tva_router.specs.Stands.{StandForLogs}
-use Rattle.tva_router.specs.Steps.{ArePorts}
+use Rattle.tva_router.proofs.Common.{take, [], StandForLogs, ArePorts}
 use Rattle.tva_router.proofs.hand_router.ports_of.Given as goal
 
 -- a port for each link so far

@@ -1,12 +1,7 @@
-use Rattle.std.proofs.Common.{◌≡◌, ℕ, List, [], ◌++◌, subst}
-use Rattle.tva_flow.specs.Charges.{Charge}
-use Rattle.tva_flow.specs.Budget.{AreTimely}
-use Rattle.tva_flow.specs.Stands.{AreNext}
+use Rattle.tva_router.proofs.Common.{◌≡◌, ℕ, List, [], ◌++◌, subst, Charge, AreTimely, AreNext, PortLogs, RouterData, StandsFor}
 use Rattle.tva_flow.proofs.Places.{legal_front, timely_front}
 use Rattle.tva_flow.proofs.Few.{few}
 use Rattle.tva_flow.proofs.Budget.{budget}
-use Rattle.tva_router.specs.Handling.{PortLogs}
-use Rattle.tva_router.specs.Stands.{RouterData, StandsFor}
 use Rattle.tva_router.proofs.laws.charges_keep_slots.Goals as goal
 
 legal : (v : RouterData) (h : List Charge) (logs : PortLogs) → StandsFor v h logs → AreNext v.plan.slots v.plan.clock_offset [] h

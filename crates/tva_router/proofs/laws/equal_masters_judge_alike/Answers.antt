@@ -1,5 +1,4 @@
-use Rattle.std.proofs.Common.{refl, sym}
-use Rattle.tva_router.specs.Handling.{Handled}
+use Rattle.tva_router.proofs.Common.{refl, sym, Handled}
 use Rattle.tva_router.proofs.Rerouted.{same_by_masters}
 use Rattle.tva_router.proofs.laws.equal_masters_judge_alike.Goals as goal
 

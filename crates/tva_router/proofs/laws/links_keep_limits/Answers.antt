@@ -1,7 +1,4 @@
-use Rattle.std.proofs.Common.{List, [], subst, arith}
-use Rattle.tva_port.specs.Log.{Entry}
-use Rattle.tva_port.specs.Legal.{IsLegal}
-use Rattle.tva_port.proofs.Logs.{legal-front}
+use Rattle.tva_router.proofs.Common.{List, [], subst, arith, Entry, IsLegal, legal-front}
 use Rattle.tva_port.proofs.Legality.{rate_kept, starts_apart}
 use Rattle.tva_port.proofs.Limits.{stays_within}
 use Rattle.tva_router.proofs.Known.{known}

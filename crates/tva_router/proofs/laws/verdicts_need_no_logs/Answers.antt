@@ -1,5 +1,4 @@
-use Rattle.std.proofs.Common.{refl}
-use Rattle.tva_router.specs.Handling.{Handled}
+use Rattle.tva_router.proofs.Common.{refl, Handled}
 use Rattle.tva_router.proofs.Fates.{same_over}
 use Rattle.tva_router.proofs.laws.verdicts_need_no_logs.Goals as goal
 

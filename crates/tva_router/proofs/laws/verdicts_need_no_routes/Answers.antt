@@ -1,5 +1,4 @@
-use Rattle.std.proofs.Common.{refl}
-use Rattle.tva_router.specs.Handling.{Handled}
+use Rattle.tva_router.proofs.Common.{refl, Handled}
 use Rattle.tva_router.proofs.Rerouted.{same_by_routes}
 use Rattle.tva_router.proofs.laws.verdicts_need_no_routes.Goals as goal
 

@@ -1,5 +1,4 @@
-use Rattle.std.proofs.Common.{ℕ, eqb, sym, ◌∙◌}
-use Rattle.std.proofs.lemmas.Iterator.Adapters.{position_from-zero}
+use Rattle.tva_router.proofs.Common.{ℕ, eqb, sym, ◌∙◌, position_from-zero}
 use Rattle.tva_router.proofs.Tables.{place_within}
 use Rattle.tva_router.proofs.places.place_of.Goals as goal
 

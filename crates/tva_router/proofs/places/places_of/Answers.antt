@@ -1,4 +1,4 @@
-use Rattle.std.proofs.Common.{◌-◌, arith}
+use Rattle.tva_router.proofs.Common.{◌-◌, arith}
 use Rattle.tva_router.proofs.Tables.{places-before}
 use Rattle.tva_router.proofs.places.places_of.Goals as goal
 

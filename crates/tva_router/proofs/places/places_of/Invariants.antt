@@ -1,5 +1,4 @@
-use Rattle.std.proofs.Common.{◌≤◌, length, drop}
-use Rattle.tva_router.specs.Tables.{ArePlacesFrom}
+use Rattle.tva_router.proofs.Common.{◌≤◌, length, drop, ArePlacesFrom}
 use Rattle.tva_router.proofs.places.places_of.Given as goal
 
 -- the places of the links from this one on

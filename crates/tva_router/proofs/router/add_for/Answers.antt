@@ -1,5 +1,4 @@
-use Rattle.std.proofs.Common.{◌≡◌, ◌+◌, take, arith}
-use Rattle.tva_router.specs.Stocked.{places_on}
+use Rattle.tva_router.proofs.Common.{◌≡◌, ◌+◌, take, arith, places_on}
 use Rattle.tva_router.proofs.Stocked.{places_more}
 use Rattle.tva_router.proofs.router.add_for.Goals as goal
 

@@ -1,5 +1,4 @@
-use Rattle.std.proofs.Common.{◌≡◌, ◌+◌, ◌≤◌, take}
-use Rattle.tva_router.specs.Stocked.{places_on}
+use Rattle.tva_router.proofs.Common.{◌≡◌, ◌+◌, ◌≤◌, take, places_on}
 use Rattle.tva_router.proofs.router.add_for.Given as goal
 
 -- memory for the links so far, and for one packet more

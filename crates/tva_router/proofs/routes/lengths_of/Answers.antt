@@ -1,7 +1,4 @@
-use Rattle.std.proofs.Common.{ℕ, ◌≤◌, ◌<◌, true, length, take, get_or, set, ◌+◌, sym, ◌∙◌, subst, arith}
-use Rattle.std.proofs.lemmas.List.{length-set}
-use Rattle.tva_base.specs.declared.plan.Route.{Route}
-use Rattle.tva_router.specs.Tables.{AreMarked}
+use Rattle.tva_router.proofs.Common.{ℕ, ◌≤◌, ◌<◌, true, length, take, get_or, set, ◌+◌, sym, ◌∙◌, subst, arith, length-set, Route, AreMarked}
 use Rattle.tva_router.proofs.Tables.{all_short, marked-more}
 use Rattle.tva_router.proofs.routes.lengths_of.Goals as goal
 

@@ -1,5 +1,4 @@
-use Rattle.std.proofs.Common.{◌≡◌, length, take}
-use Rattle.tva_router.specs.Tables.{AreMarked}
+use Rattle.tva_router.proofs.Common.{◌≡◌, length, take, AreMarked}
 use Rattle.tva_router.proofs.routes.lengths_of.Given as goal
 
 -- the lengths so far are marked

@@ -1,4 +1,4 @@
-use Rattle.tva_router.specs.Routes.{leads}
+use Rattle.tva_router.proofs.Common.{leads}
 use Rattle.tva_router.proofs.Tables.{link_there, link_nowhere}
 use Rattle.tva_router.proofs.routes.link_at.Goals as goal
 

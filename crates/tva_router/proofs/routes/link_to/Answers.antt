@@ -1,4 +1,4 @@
-use Rattle.std.proofs.Common.{sym, ◌∙◌, arith}
+use Rattle.tva_router.proofs.Common.{sym, ◌∙◌, arith}
 use Rattle.tva_router.proofs.Tables.{shorter_at_first, shorter-more, found_longest, found_nowhere}
 use Rattle.tva_router.proofs.routes.link_to.Goals as goal
 

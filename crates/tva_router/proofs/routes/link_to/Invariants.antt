@@ -1,4 +1,4 @@
-use Rattle.std.specs.List.{All}
+use Rattle.tva_router.proofs.Common.{All}
 use Rattle.tva_router.proofs.Tables.{IsShorter}
 use Rattle.tva_router.proofs.routes.link_to.Given as goal
 

@@ -1,6 +1,4 @@
-use Rattle.std.proofs.Common.{◌≡◌, ℕ, false, get_or, ap, subst, ◌∙◌}
-use Rattle.std.specs.HashMap.{get}
-use Rattle.tva_router.specs.Routes.{leads}
+use Rattle.tva_router.proofs.Common.{◌≡◌, ℕ, false, get_or, ap, subst, ◌∙◌, get, leads}
 use Rattle.tva_router.specs.Tables.{same_prefix}
 use Rattle.tva_router.proofs.Tables.{place_looked, place_unmarked, route_within}
 use Rattle.tva_router.proofs.routes.place_at.Goals as goal

@@ -1,7 +1,4 @@
-use Rattle.std.proofs.Common.{sym, ◌∙◌}
-use Rattle.std.proofs.lemmas.Iterator.Adapters.{position_from-zero}
-use Rattle.tva_base.specs.declared.plan.Route.{Route}
-use Rattle.tva_base.specs.Changes.{same_prefix}
+use Rattle.tva_router.proofs.Common.{sym, ◌∙◌, position_from-zero, Route, same_prefix}
 use Rattle.tva_router.proofs.Tables.{route_within}
 use Rattle.tva_router.proofs.routes.place_of_prefix.Goals as goal
 

@@ -1,5 +1,4 @@
-use Rattle.std.proofs.Common.{◌-◌, arith}
-use Rattle.tva_base.specs.declared.plan.Route.{Route}
+use Rattle.tva_router.proofs.Common.{◌-◌, arith, Route}
 use Rattle.tva_router.proofs.Tables.{route_places-before}
 use Rattle.tva_router.proofs.routes.places_by_prefix.Goals as goal
 

@@ -1,5 +1,4 @@
-use Rattle.std.proofs.Common.{◌≤◌, length, drop}
-use Rattle.tva_router.specs.Tables.{AreRoutePlacesFrom}
+use Rattle.tva_router.proofs.Common.{◌≤◌, length, drop, AreRoutePlacesFrom}
 use Rattle.tva_router.proofs.routes.places_by_prefix.Given as goal
 
 -- the places of the routes from this one on

@@ -1,7 +1,4 @@
-use Rattle.std.proofs.Common.{List, get_or, set, ap, ◌∙◌}
-use Rattle.std.specs.List.{position}
-use Rattle.tva_base.specs.Changes.{same_prefix}
-use Rattle.tva_base.specs.declared.plan.Route.{Route}
+use Rattle.tva_router.proofs.Common.{List, get_or, set, ap, ◌∙◌, position, same_prefix, Route}
 use Rattle.tva_router.proofs.Changed.{rerouted_set, rerouted_none}
 use Rattle.tva_router.proofs.routes.reroute.Goals as goal
 

@@ -1,8 +1,4 @@
-use Rattle.std.proofs.Common.{◌≡◌, ℕ, ◌≤◌, Option, Some, None, eqb, ap, ◌∙◌, subst, arith, sym, List}
-use Rattle.tva_base.specs.declared.limits.LinkLimits.{LinkLimits}
-use Rattle.tva_port.specs.Decide.{decision, started_by}
-use Rattle.tva_port.specs.Hand.{decision_by}
-use Rattle.tva_router.specs.Tables.{ArePlaces}
+use Rattle.tva_router.proofs.Common.{◌≡◌, ℕ, ◌≤◌, Option, Some, None, eqb, ap, ◌∙◌, subst, arith, sym, List, LinkLimits, decision, started_by, decision_by, ArePlaces}
 use Rattle.tva_router.proofs.Links.{is_at, at_within, find_nowhere}
 use Rattle.tva_router.proofs.Ports.{ports-length, port-get, ports-set, free-at, free-set, place-in, stands-get, stands-set}
 use Rattle.tva_router.proofs.Queueing.{found}

@@ -1,6 +1,4 @@
-use Rattle.std.proofs.Common.{ℕ, Some, None, eqb, sym, ◌∙◌, arith, subst, List}
-use Rattle.tva_base.specs.declared.limits.LinkLimits.{LinkLimits}
-use Rattle.tva_router.specs.Tables.{ArePlaces}
+use Rattle.tva_router.proofs.Common.{ℕ, Some, None, eqb, sym, ◌∙◌, arith, subst, List, LinkLimits, ArePlaces}
 use Rattle.tva_router.proofs.Links.{is_at, at_within, find_nowhere}
 use Rattle.tva_router.proofs.Ports.{ports-length, port-get, free-at, place-in}
 use Rattle.tva_router.proofs.sending.free_on.Goals as goal

@@ -1,7 +1,4 @@
-use Rattle.std.proofs.Common.{sym, ap, ◌∙◌, arith}
-use Rattle.tva_base.specs.declared.packet.Outcome.{Outcome}
-use Rattle.tva_port.specs.Hand.{answer_by, kept_by}
-use Rattle.tva_router.specs.Handling.{kept_after}
+use Rattle.tva_router.proofs.Common.{sym, ap, ◌∙◌, arith, Outcome, answer_by, kept_by, kept_after}
 use Rattle.tva_router.proofs.Ports.{ports-length, port-get, ports-set}
 use Rattle.tva_router.proofs.Queueing.{found, answered, sent-at, stands-queued, kept_agrees, kept_by_outcome}
 use Rattle.tva_router.proofs.sending.queue_at.Goals as goal

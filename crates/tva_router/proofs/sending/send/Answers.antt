@@ -1,14 +1,4 @@
-use Rattle.std.proofs.Common.{◌≡◌, ℕ, List, Option, Some, None, eqb, sym, ap, ◌∙◌, subst}
-use Rattle.std.specs.List.{position}
-use Rattle.std.specs.Option.{option_and_then}
-use Rattle.tva_base.specs.declared.addresses.Address.{Address}
-use Rattle.tva_base.specs.declared.limits.LinkLimits.{LinkLimits}
-use Rattle.tva_base.specs.declared.plan.Route.{Route}
-use Rattle.tva_base.specs.declared.plan.RouterPlan.{RouterPlan}
-use Rattle.tva_router.specs.Routes.{link_to}
-use Rattle.tva_router.specs.Handling.{sent, queued, way_to, outgoing_link}
-use Rattle.tva_router.specs.Stands.{StandForLogs, ◌with◌}
-use Rattle.tva_router.specs.Tables.{ArePlaces, IsTableOf}
+use Rattle.tva_router.proofs.Common.{◌≡◌, ℕ, List, Option, Some, None, eqb, sym, ap, ◌∙◌, subst, position, option_and_then, Address, LinkLimits, Route, RouterPlan, link_to, sent, queued, way_to, outgoing_link, StandForLogs, ◌with◌, ArePlaces, IsTableOf}
 use Rattle.tva_router.proofs.Links.{find_nowhere}
 use Rattle.tva_router.proofs.Ports.{stands-nothing}
 use Rattle.tva_router.proofs.sending.send.Goals as goal

@@ -1,6 +1,5 @@
-use Rattle.std.proofs.Common.{ℕ, List, sym, ◌∙◌, ap}
+use Rattle.tva_rows.proofs.Common.{ℕ, List, sym, ◌∙◌, ap, shim_in, what_in}
 use Rattle.tva_rows.specs.declared.rows.RowWhat.TheVariants as says
-use Rattle.tva_rows.specs.Brief.{shim_in, what_in}
 use Rattle.tva_rows.proofs.brief.brief_beside.Goals as goal
 
 pub returns-in_ok-start-in-Shim-clause-same : goal.returns-in_ok-start-in-Shim-clause-same

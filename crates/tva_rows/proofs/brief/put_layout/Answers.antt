@@ -1,5 +1,4 @@
-use Rattle.std.proofs.Common.{rules, ◌≡◌, ◌++◌, List, ℕ, length, ◌∙◌, ap}
-use Rattle.tva_shim.specs.Layout.{layout}
+use Rattle.tva_rows.proofs.Common.{rules, ◌≡◌, ◌++◌, List, ℕ, length, ◌∙◌, ap, layout}
 use Rattle.tva_rows.proofs.Packing.{last_shim}
 use Rattle.tva_rows.proofs.brief.put_layout.Goals as goal
 

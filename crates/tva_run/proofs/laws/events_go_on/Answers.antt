@@ -1,7 +1,5 @@
-use Rattle.std.proofs.Common.{◌∙◌, ap}
+use Rattle.tva_run.proofs.Common.{◌∙◌, ap, line_of, lines_of}
 use Rattle.std.proofs.lemmas.Grind.{flat_map-append}
-use Rattle.tva_lines.specs.Lines.{line_of}
-use Rattle.tva_run.specs.Report.{lines_of}
 use Rattle.tva_run.proofs.Runs.{are_delayed}
 use Rattle.tva_run.proofs.Reports.{events_begin}
 use Rattle.tva_run.proofs.laws.events_go_on.Goals as goal

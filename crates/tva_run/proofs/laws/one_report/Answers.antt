@@ -1,5 +1,4 @@
-use Rattle.std.proofs.Common.{◌+◌, sym, ◌∙◌, ap}
-use Rattle.tva_run.specs.Report.{report_of}
+use Rattle.tva_run.proofs.Common.{◌+◌, sym, ◌∙◌, ap, report_of}
 use Rattle.tva_run.proofs.Runs.{are_delayed}
 use Rattle.tva_run.proofs.Reports.{one_list}
 use Rattle.tva_run.proofs.laws.one_report.Goals as goal

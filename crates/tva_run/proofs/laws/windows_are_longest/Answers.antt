@@ -1,4 +1,4 @@
-use Rattle.std.proofs.Common.{◌+◌}
+use Rattle.tva_run.proofs.Common.{◌+◌}
 use Rattle.tva_run.proofs.Going.{least_is, least_of_none, least_delay-least}
 use Rattle.tva_run.proofs.laws.windows_are_longest.Goals as goal
 

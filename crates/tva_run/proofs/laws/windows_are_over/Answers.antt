@@ -1,4 +1,4 @@
-use Rattle.std.proofs.Common.{◌≤◌, ◌+◌, arith}
+use Rattle.tva_run.proofs.Common.{◌≤◌, ◌+◌, arith}
 use Rattle.tva_run.proofs.Next.{none_before}
 use Rattle.tva_run.proofs.laws.windows_are_over.Goals as goal
 

@@ -1,5 +1,4 @@
-use Rattle.std.proofs.Common.{subst}
-use Rattle.tva_sender.specs.Tree.{IsEnd}
+use Rattle.tva_sender.proofs.Common.{subst, IsEnd}
 use Rattle.tva_sender.proofs.Tree.{first_found, nowhere_missing}
 use Rattle.tva_sender.proofs.places.find_in.Goals as goal
 

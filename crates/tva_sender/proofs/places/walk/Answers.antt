@@ -1,4 +1,4 @@
-use Rattle.std.proofs.Common.{◌%◌, eqb, suc, refl, sym, ◌∙◌, arith}
+use Rattle.tva_sender.proofs.Common.{◌%◌, eqb, suc, refl, sym, ◌∙◌, arith}
 use Rattle.tva_sender.proofs.Tree.{walk-next}
 use Rattle.tva_sender.proofs.places.walk.Goals as goal
 

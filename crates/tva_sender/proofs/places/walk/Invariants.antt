@@ -1,5 +1,4 @@
-use Rattle.std.proofs.Common.{◌≡◌, ℕ, ◌-◌, ◌<◌, length, Some}
-use Rattle.tva_sender.specs.Tree.{bits_past, spot}
+use Rattle.tva_sender.proofs.Common.{◌≡◌, ℕ, ◌-◌, ◌<◌, length, Some, bits_past, spot}
 use Rattle.tva_sender.proofs.places.walk.Given as goal
 
 -- the steps so far lead to this node, and these are the bits that are left

@@ -1,4 +1,4 @@
-use Rattle.std.proofs.Common.{◌∙◌, sym}
+use Rattle.tva_shim.proofs.Common.{◌∙◌, sym}
 use Rattle.tva_shim.proofs.Wholes.{bytes_after}
 use Rattle.tva_shim.proofs.decoding.decode.Goals as goal
 

@@ -1,4 +1,4 @@
-use Rattle.std.proofs.Common.{◌<◌, ◌∷◌, [], length, length-append, arith}
+use Rattle.tva_shim.proofs.Common.{◌<◌, ◌∷◌, [], length, length-append, arith}
 use Rattle.tva_shim.proofs.Reading.{begun_more, begun_missing}
 use Rattle.tva_shim.proofs.decoding.read_caps.Goals as goal
 

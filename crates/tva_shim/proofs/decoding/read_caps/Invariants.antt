@@ -1,6 +1,4 @@
-use Rattle.std.proofs.Common.{◌≡◌, length}
-use Rattle.tva_shim.specs.Widths.{IsCap}
-use Rattle.tva_shim.specs.Layout.{eight_bytes}
+use Rattle.tva_shim.proofs.Common.{◌≡◌, length, IsCap, eight_bytes}
 use Rattle.tva_shim.proofs.Reading.{Begun}
 use Rattle.tva_shim.proofs.decoding.read_caps.Given as goal
 

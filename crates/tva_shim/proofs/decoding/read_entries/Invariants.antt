@@ -1,6 +1,4 @@
-use Rattle.std.proofs.Common.{◌≡◌, length}
-use Rattle.tva_shim.specs.Widths.{IsEntry}
-use Rattle.tva_shim.specs.Layout.{entry_bytes}
+use Rattle.tva_shim.proofs.Common.{◌≡◌, length, IsEntry, entry_bytes}
 use Rattle.tva_shim.proofs.Reading.{Begun}
 use Rattle.tva_shim.proofs.decoding.read_entries.Given as goal
 

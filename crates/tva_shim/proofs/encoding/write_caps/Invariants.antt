@@ -1,7 +1,4 @@
-use Rattle.std.proofs.Common.{◌≡◌, ◌+◌, ◌*◌, ◌++◌, take}
-use Rattle.std.specs.List.{flat_map}
-use Rattle.arrayvec.specs.ArrayVec.{array_vec_len}
-use Rattle.tva_shim.specs.Layout.{eight_bytes}
+use Rattle.tva_shim.proofs.Common.{◌≡◌, ◌+◌, ◌*◌, ◌++◌, take, flat_map, array_vec_len, eight_bytes}
 use Rattle.tva_shim.proofs.encoding.write_caps.Given as goal
 
 -- the capabilities so far are written

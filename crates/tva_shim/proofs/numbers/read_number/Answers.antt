@@ -1,7 +1,4 @@
-use Rattle.std.proofs.Common.{◌∙◌, ◌^◌, ℕ, sym, ap, arith}
-use Rattle.byteorder.specs.Endian.{big_bytes}
-use Rattle.tva_base.specs.Versions.{rights_size}
-use Rattle.tva_shim.specs.Layout.{number_bytes}
+use Rattle.tva_shim.proofs.Common.{◌∙◌, ◌^◌, ℕ, sym, ap, arith, big_bytes, rights_size, number_bytes}
 use Rattle.tva_shim.proofs.NumberBytes.{number_missing, number_read, number_bytes-is}
 use Rattle.tva_shim.proofs.numbers.read_number.Goals as goal
 

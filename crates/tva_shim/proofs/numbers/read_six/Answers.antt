@@ -1,5 +1,4 @@
-use Rattle.std.proofs.Common.{refl, arith}
-use Rattle.tva_shim.specs.Layout.{six_bytes}
+use Rattle.tva_shim.proofs.Common.{refl, arith, six_bytes}
 use Rattle.tva_shim.proofs.NumberBytes.{number_missing, number_read, six_bytes-is}
 use Rattle.tva_shim.proofs.numbers.read_six.Goals as goal
 

@@ -1,5 +1,4 @@
-use Rattle.std.proofs.Common.{◌≡◌, ◌∙◌, ◌++◌, ℕ, List, ap, rules, take}
-use Rattle.tva_shim.specs.Layout.{number_bytes}
+use Rattle.tva_shim.proofs.Common.{◌≡◌, ◌∙◌, ◌++◌, ℕ, List, ap, rules, take, number_bytes}
 use Rattle.tva_shim.proofs.NumberBytes.{front_written}
 use Rattle.tva_shim.proofs.numbers.write_number.Goals as goal
 

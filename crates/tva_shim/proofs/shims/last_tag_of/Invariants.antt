@@ -1,5 +1,4 @@
-use Rattle.std.proofs.Common.{◌≡◌, filter, nat_lt, take}
-use Rattle.tva_shim.specs.Changes.{last_or_zero}
+use Rattle.tva_shim.proofs.Common.{◌≡◌, filter, nat_lt, take, last_or_zero}
 use Rattle.tva_shim.proofs.shims.last_tag_of.Given as goal
 
 -- the last nonzero tag so far

@@ -1,5 +1,4 @@
-use Rattle.std.proofs.Common.{◌≡◌, filter, nat_lt, take}
-use Rattle.tva_shim.specs.Changes.{last_but_one_or_zero, last_or_zero}
+use Rattle.tva_shim.proofs.Common.{◌≡◌, filter, nat_lt, take, last_but_one_or_zero, last_or_zero}
 use Rattle.tva_shim.proofs.shims.tag_before_of.Given as goal
 
 -- the last two nonzero tags so far

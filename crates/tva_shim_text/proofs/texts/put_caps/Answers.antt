@@ -1,5 +1,4 @@
-use Rattle.std.proofs.Common.{codes, string_bytes}
-use Rattle.tva_shim_text.specs.ShimText.{digits_of}
+use Rattle.tva_shim_text.proofs.Common.{codes, string_bytes, digits_of}
 use Rattle.tva_shim_text.proofs.Joins.{put_words}
 use Rattle.tva_shim_text.proofs.texts.put_caps.Goals as goal
 

@@ -1,6 +1,4 @@
-use Rattle.std.proofs.Common.{◌≡◌, ◌∷◌, ◌++◌, take, string_bytes}
-use Rattle.std.specs.List.{flat_map}
-use Rattle.tva_shim_text.specs.ShimText.{digits_of}
+use Rattle.tva_shim_text.proofs.Common.{◌≡◌, ◌∷◌, ◌++◌, take, string_bytes, flat_map, digits_of}
 use Rattle.tva_shim_text.proofs.texts.put_caps.Given as goal
 
 abbrev pub invariant-loop-cap : goal.invariant-loop-cap

@@ -1,6 +1,4 @@
-use Rattle.std.proofs.Common.{◌≡◌, ◌∷◌, ◌++◌, take, string_bytes}
-use Rattle.std.specs.List.{flat_map}
-use Rattle.tva_shim_text.specs.ShimText.{entry_word}
+use Rattle.tva_shim_text.proofs.Common.{◌≡◌, ◌∷◌, ◌++◌, take, string_bytes, flat_map, entry_word}
 use Rattle.tva_shim_text.proofs.texts.put_entries.Given as goal
 
 abbrev pub invariant-loop-entry : goal.invariant-loop-entry

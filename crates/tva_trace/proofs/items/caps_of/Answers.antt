@@ -1,8 +1,6 @@
-use Rattle.std.proofs.Common.{rules, ◌∙◌, sym, ap, ◌<◌, ◌==◌, length, ◌+◌, arith, None}
-use Rattle.std.specs.List.{slice_split}
+use Rattle.tva_trace.proofs.Common.{rules, ◌∙◌, sym, ap, ◌<◌, ◌==◌, length, ◌+◌, arith, None, slice_split, length_push}
 use Rattle.std.proofs.lemmas.Iterator.Splits.{YieldsList-from_slice_split}
 use Rattle.std.proofs.lemmas.Iterator.Consumers.{YieldsList-turn, YieldsList-end}
-use Rattle.std.proofs.lemmas.List.{length_push}
 use Rattle.tva_trace.proofs.ItemLists.{caps_of_items-some, read_more, read_none, read_all, too_many}
 use Rattle.tva_trace.proofs.items.caps_of.Goals as goal
 

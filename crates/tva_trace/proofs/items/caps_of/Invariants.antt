@@ -1,5 +1,4 @@
-use Rattle.std.proofs.Common.{◌≡◌, ◌≤◌, ◌==◌, length}
-use Rattle.std.specs.List.{slice_split}
+use Rattle.tva_trace.proofs.Common.{◌≡◌, ◌≤◌, ◌==◌, length, slice_split}
 use Rattle.tva_trace.proofs.ItemLists.{IsReadTo}
 use Rattle.tva_trace.proofs.items.caps_of.Given as goal
 

@@ -1,4 +1,4 @@
-use Rattle.std.proofs.Common.{arith}
+use Rattle.tva_trace.proofs.Common.{arith}
 use Rattle.tva_trace.proofs.Digits.{big_from-fits}
 use Rattle.tva_trace.proofs.items.number_in_six.Goals as goal
 

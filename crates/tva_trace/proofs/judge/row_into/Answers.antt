@@ -1,13 +1,6 @@
-use Rattle.std.proofs.Common.{◌≡◌, ◌≤◌, ◌<◌, ℕ, Bool, true, false, Ok, Option, Some, IfSome, List, length, refl, subst, arith}
-use Rattle.std.specs.Prelude.{nat_le}
-use Rattle.std.proofs.lemmas.Bool.Decides.{nat_tests}
-use Rattle.tva_plan.specs.declared.config.NodePlan.{NodePlan}
+use Rattle.tva_trace.proofs.Common.{◌≡◌, ◌≤◌, ◌<◌, ℕ, Bool, true, false, Ok, Option, Some, IfSome, List, length, refl, subst, arith, nat_le, nat_tests, NodePlan, is_host, counted, has_room, hold, IsAllowed}
 use Rattle.tva_trace.specs.declared.rows.TraceRule as rules
 use Rattle.tva_trace.specs.declared.rows.TraceRule.TheVariants as rule
-use Rattle.tva_plan.specs.Names.{is_host}
-use Rattle.tva_trace.specs.Files.{counted}
-use Rattle.tva_trace.specs.Rows.{has_room, hold}
-use Rattle.tva_trace.specs.Valid.{IsAllowed}
 use Rattle.tva_trace.proofs.judge.row_into.Goals as goal
 
 some_at : {A : Type 0} (o : Option A) (x : A) (P : A → Type 0) → IfSome o P → o ≡ Some x → P x

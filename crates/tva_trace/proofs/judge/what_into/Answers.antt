@@ -1,11 +1,6 @@
-use Rattle.std.proofs.Common.{◌≡◌, ℕ, Bool, Ok, Err, Result, List, IfOk, refl, sym, subst, ◌∙◌}
-use Rattle.tva_plan.specs.declared.config.NodePlan.{NodePlan}
+use Rattle.tva_trace.proofs.Common.{◌≡◌, ℕ, Bool, Ok, Err, Result, List, IfOk, refl, sym, subst, ◌∙◌, NodePlan, TraceRule, SaidWhat, injection_of, what_of, IsAllowed, IsSaidWhat}
 use Rattle.tva_trace.specs.declared.rows.RowKind.{RowKind}
 use Rattle.tva_trace.specs.declared.rows.RowKind.TheVariants as kind
-use Rattle.tva_trace.specs.declared.rows.TraceRule.{TraceRule}
-use Rattle.tva_trace.specs.declared.said.SaidWhat.{SaidWhat}
-use Rattle.tva_trace.specs.Rows.{injection_of, what_of}
-use Rattle.tva_trace.specs.Valid.{IsAllowed, IsSaidWhat}
 use Rattle.tva_trace.proofs.judge.what_into.Goals as goal
 
 -- all kinds but three inject a packet

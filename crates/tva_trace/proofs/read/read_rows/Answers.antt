@@ -1,7 +1,5 @@
-use Rattle.std.proofs.Common.{◌∙◌, sym, ap, subst, inl, inr, Bool, true, arith}
-use Rattle.csv.specs.Reading.{ReadRecord, error_kind, with_flexible}
+use Rattle.tva_trace.proofs.Common.{◌∙◌, sym, ap, subst, inl, inr, Bool, true, arith, ReadRecord, error_kind, with_flexible, counted}
 use Rattle.csv.specs.Records.{fields_of}
-use Rattle.tva_trace.specs.Files.{counted}
 use Rattle.tva_trace.specs.Left.{row_where}
 use Rattle.tva_trace.proofs.FileCounts.{counts_none, find_room}
 use Rattle.tva_trace.proofs.Reading.{told, read-start, read-fault, read-on, read-nothing, read-short, read-valid, read-whole}

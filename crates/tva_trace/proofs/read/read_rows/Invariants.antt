@@ -1,5 +1,4 @@
-use Rattle.std.proofs.Common.{◌-◌}
-use Rattle.tva_trace.specs.Files.{counted}
+use Rattle.tva_trace.proofs.Common.{◌-◌, counted}
 use Rattle.tva_trace.proofs.Reading.{IsReadTo}
 use Rattle.tva_trace.proofs.read.read_rows.Given as goal
 

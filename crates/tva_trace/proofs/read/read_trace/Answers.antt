@@ -1,4 +1,4 @@
-use Rattle.std.proofs.Common.{◌∙◌, sym}
+use Rattle.tva_trace.proofs.Common.{◌∙◌, sym}
 use Rattle.tva_trace.proofs.read.read_trace.Goals as goal
 
 pub returns-in-Ok-clause-only : goal.returns-in-Ok-clause-only

@@ -1,9 +1,4 @@
-use Rattle.std.proofs.Common.{◌≡◌, ℕ, List, ◌∷◌, false, eqb, sym, subst, ◌∙◌, arith}
-use Rattle.std.specs.List.{slice_get}
-use Rattle.std.specs.Option.{IfSome}
-use Rattle.std.specs.Ordering.{is_gt}
-use Rattle.std.proofs.lemmas.Bool.{eqb-true, eqb-false, false_from_ne_true, not-false, not-true}
-use Rattle.tva_base.specs.declared.addresses.Address.{Address}
+use Rattle.tva_transfer.proofs.Common.{◌≡◌, ℕ, List, ◌∷◌, false, eqb, sym, subst, ◌∙◌, arith, slice_get, IfSome, is_gt, eqb-true, eqb-false, false_from_ne_true, not-false, not-true, Address}
 use Rattle.tva_transfer.proofs.Compared.{has_key_by, key_before, key_cmp, key_from}
 use Rattle.tva_transfer.proofs.courier.first_due.Goals as goal
 

@@ -1,7 +1,4 @@
-use Rattle.std.proofs.Common.{sym, ap, ◌∙◌}
-use Rattle.std.specs.Option.{unwrap_or}
-use Rattle.std.proofs.lemmas.Bool.{ne_eqb, eq-eqb}
-use Rattle.tva_transfer.specs.Stands.{next_kept}
+use Rattle.tva_transfer.proofs.Common.{sym, ap, ◌∙◌, unwrap_or, ne_eqb, eq-eqb, next_kept}
 use Rattle.tva_transfer.proofs.Knowing.{range_of-kept, range_of-none}
 use Rattle.tva_transfer.proofs.courier.range_at.Goals as goal
 

@@ -1,8 +1,4 @@
-use Rattle.std.proofs.Common.{rules, ◌≡◌, ◌<◌, ◌≤◌, ◌+◌, ◌∷◌, [], ℕ, List, zero, suc, length, get_or, set, refl, sym, ◌∙◌, ap, arith, inl, inr, ◌⊎◌}
-use Rattle.std.proofs.lemmas.Bool.{cases_eq}
-use Rattle.std.proofs.lemmas.List.{get_or-set_other, get_or-set_same, length-set}
-use Rattle.tva_waiting.specs.Queues.{Queue, head_at, head_of, never}
-use Rattle.tva_waiting.specs.Lanes.{queues_of}
+use Rattle.tva_waiting.proofs.Common.{rules, ◌≡◌, ◌<◌, ◌≤◌, ◌+◌, ◌∷◌, [], ℕ, List, zero, suc, length, get_or, set, refl, sym, ◌∙◌, ap, arith, inl, inr, ◌⊎◌, cases_eq, get_or-set_other, get_or-set_same, length-set, Queue, head_at, head_of, never, queues_of}
 use Rattle.tva_waiting.proofs.Held.{queue_past}
 use Rattle.tva_waiting.proofs.lanes.heads_of.Goals as goal
 

@@ -1,6 +1,4 @@
-use Rattle.std.proofs.Common.{◌≡◌, ◌<◌, ℕ, List, length, get_or}
-use Rattle.tva_waiting.specs.Queues.{head_at, never}
-use Rattle.tva_waiting.specs.Lanes.{queues_of}
+use Rattle.tva_waiting.proofs.Common.{◌≡◌, ◌<◌, ℕ, List, length, get_or, head_at, never, queues_of}
 use Rattle.tva_waiting.proofs.lanes.heads_of.Given as goal
 
 abbrev pub invariant-loop-place : goal.invariant-loop-place

@@ -1,8 +1,6 @@
-use Rattle.std.proofs.Common.{rules, ◌≡◌, ◌+◌, ◌-◌, length, take, false, sym, subst, ◌∙◌, ap, arith}
-use Rattle.std.specs.List.{AllByRecursion}
+use Rattle.tva_waiting.proofs.Common.{rules, ◌≡◌, ◌+◌, ◌-◌, length, take, false, sym, subst, ◌∙◌, ap, arith, AllByRecursion, precedes}
 use Rattle.std.specs.VecDeque.{deque_len}
-use Rattle.tva_log.specs.Joins.{precedes}
-use Rattle.tva_log.proofs.Places.{put_in-at, none_sooner}
+use Rattle.tva_run.proofs.Places.{put_in-at, none_sooner}
 use Rattle.tva_waiting.proofs.Finding.{any_default}
 use Rattle.tva_waiting.proofs.lanes.place_for.Goals as goal
 

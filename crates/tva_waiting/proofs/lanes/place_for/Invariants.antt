@@ -1,5 +1,4 @@
-use Rattle.std.proofs.Common.{◌≡◌, ◌≤◌, ◌<◌, length, get_or, true}
-use Rattle.tva_log.specs.Joins.{precedes}
+use Rattle.tva_waiting.proofs.Common.{◌≡◌, ◌≤◌, ◌<◌, length, get_or, true, precedes}
 use Rattle.tva_waiting.proofs.lanes.place_for.Given as goal
 
 abbrev pub invariant-loop-place : goal.invariant-loop-place

@@ -1,8 +1,4 @@
-use Rattle.std.proofs.Common.{rules, ◌≡◌, ◌<◌, ◌≤◌, ◌+◌, ◌++◌, ◌∷◌, [], ℕ, List, zero, suc, length, map, take, get_or, sym, ◌∙◌, ap, ap₂, arith}
-use Rattle.std.proofs.Math.Seq.{take-suc, take-length}
-use Rattle.std.proofs.lemmas.List.{get_or-map, length-map}
-use Rattle.tva_index.specs.KeyRing.{place_in, ring}
-use Rattle.tva_waiting.specs.declared.lanes.Lane.{Lane}
+use Rattle.tva_waiting.proofs.Common.{rules, ◌≡◌, ◌<◌, ◌≤◌, ◌+◌, ◌++◌, ◌∷◌, [], ℕ, List, zero, suc, length, map, take, get_or, sym, ◌∙◌, ap, ap₂, arith, take-suc, take-length, get_or-map, length-map, place_in, ring, Lane}
 use Rattle.tva_waiting.proofs.Held.{source_new}
 use Rattle.tva_waiting.proofs.lanes.sources_of.Goals as goal
 

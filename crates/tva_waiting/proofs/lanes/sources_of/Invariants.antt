@@ -1,6 +1,4 @@
-use Rattle.std.proofs.Common.{◌≡◌, ◌+◌, ◌∷◌, map, take}
-use Rattle.tva_index.specs.KeyRing.{ring}
-use Rattle.tva_waiting.specs.declared.lanes.Lane.{Lane}
+use Rattle.tva_waiting.proofs.Common.{◌≡◌, ◌+◌, ◌∷◌, map, take, ring, Lane}
 use Rattle.tva_waiting.proofs.lanes.sources_of.Given as goal
 
 abbrev pub invariant-loop-place : goal.invariant-loop-place

@@ -1,6 +1,4 @@
-use Rattle.std.proofs.Common.{List, sym, subst, ◌∙◌}
-use Rattle.tva_sums.specs.declared.sums.Tally.{Tally}
-use Rattle.tva_audit.specs.Tallies.{AreTallied}
+use Rattle.tva_audit.proofs.Common.{List, sym, subst, ◌∙◌, Tally, AreTallied}
 use Rattle.tva_audit.proofs.followed.Followed.answered.Goals as goal
 
 pub returns-in-Ok-Some-clause-decided : goal.returns-in-Ok-Some-clause-decided

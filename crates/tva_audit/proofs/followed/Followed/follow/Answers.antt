@@ -1,10 +1,4 @@
-use Rattle.std.proofs.Common.{◌≡◌, Bool, cond, [], List, ◌++◌, length, is_some, refl, sym, ap, ◌∙◌, subst}
-use Rattle.std.proofs.lemmas.List.{length-map, with_items_is}
-use Rattle.tva_base.specs.declared.event.Event.{Event}
-use Rattle.tva_lines.specs.Lines.{text_of_event}
-use Rattle.tva_sums.specs.declared.sums.Tally.{Tally}
-use Rattle.tva_audit.specs.Followed.{left}
-use Rattle.tva_audit.specs.Tallies.{AreTallied}
+use Rattle.tva_audit.proofs.Common.{◌≡◌, Bool, cond, [], List, ◌++◌, length, is_some, refl, sym, ap, ◌∙◌, subst, length-map, with_items_is, Event, text_of_event, Tally, left, AreTallied}
 use Rattle.tva_audit.proofs.Texts.{IsText, compares_more, lines_fit, ok_more, texts_of}
 use Rattle.tva_audit.proofs.followed.Followed.follow.Goals as goal
 use Rattle.tva_audit.proofs.followed.Followed.follow.Goals.{In_ok-put}

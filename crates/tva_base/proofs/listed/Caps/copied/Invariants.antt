@@ -1,4 +1,4 @@
-use Rattle.std.proofs.Common.{◌≡◌, take}
+use Rattle.tva_base.proofs.Common.{◌≡◌, take}
 use Rattle.tva_base.proofs.listed.Caps.copied.Given as goal
 
 -- the copy has the capabilities that were passed

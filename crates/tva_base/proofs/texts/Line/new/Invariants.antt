@@ -1,4 +1,4 @@
-use Rattle.std.proofs.Common.{◌≡◌, take}
+use Rattle.tva_base.proofs.Common.{◌≡◌, take}
 use Rattle.tva_base.proofs.texts.Line.new.Given as goal
 
 -- the bytes that were passed stand in the line

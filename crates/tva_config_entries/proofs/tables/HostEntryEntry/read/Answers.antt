@@ -1,6 +1,4 @@
-use Rattle.std.proofs.Common.{◌∙◌, sym}
-use Rattle.toml.specs.View.{table_view}
-use Rattle.tva_config_entries.specs.Entries.{host_of}
+use Rattle.tva_config_entries.proofs.Common.{◌∙◌, sym, table_view, host_of}
 use Rattle.tva_config_entries.proofs.Answered.{error_told, fault_told, given, refused}
 use Rattle.tva_config_entries.proofs.tables.HostEntryEntry.read.Goals as goal
 

@@ -1,6 +1,4 @@
-use Rattle.std.proofs.Common.{◌∙◌, sym}
-use Rattle.toml.specs.View.{table_view}
-use Rattle.tva_config_entries.specs.Entries.{link_of}
+use Rattle.tva_config_entries.proofs.Common.{◌∙◌, sym, table_view, link_of}
 use Rattle.tva_config_entries.proofs.Answered.{fault_told, given, refused}
 use Rattle.tva_config_entries.proofs.tables.LinkEntryEntry.read.Goals as goal
 

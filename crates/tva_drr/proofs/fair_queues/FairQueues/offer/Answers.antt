@@ -1,11 +1,4 @@
-use Rattle.std.proofs.Common.{◌≡◌, ◌+◌, ◌≤◌, true, false, sym, ◌∙◌, ap, arith, subst}
-use Rattle.tva_drr.specs.declared.offered.Offered.TheVariants.{Queued, QueueFull}
-use Rattle.tva_drr.specs.Queues.{Fair, fair, has_key, all_bytes}
-use Rattle.tva_drr.specs.Offer.{put, lacks_queue, lacks_room, offer_answer, offer_leaves}
-use Rattle.tva_drr.specs.Fair.{IsFair}
-use Rattle.tva_drr.specs.Order.{GoesLast}
-use Rattle.tva_drr.specs.Places.{IsPlace}
-use Rattle.tva_drr.specs.Rows.{queues_in}
+use Rattle.tva_drr.proofs.Common.{◌≡◌, ◌+◌, ◌≤◌, true, false, sym, ◌∙◌, ap, arith, subst, Queued, QueueFull, Fair, fair, has_key, all_bytes, put, lacks_queue, lacks_room, offer_answer, offer_leaves, IsFair, GoesLast, IsPlace, queues_in}
 use Rattle.tva_drr.proofs.OrderLaws.{goes_last}
 use Rattle.tva_drr.proofs.Lists.{room_lacked, answer_full, answer_queued, leaves_queued, room_for}
 use Rattle.tva_drr.proofs.Keeps.{items-within, keeps-offer}

@@ -1,13 +1,4 @@
-use Rattle.std.proofs.Common.{◌≡◌, ◌+◌, ◌-◌, ◌^◌, ◌<◌, Option, Some, IfSome, ap, sym, ◌∙◌, subst}
-use Rattle.std.specs.List.{All}
-use Rattle.std.specs.Option.{option_map}
-use Rattle.tva_drr.specs.Queues.{Queue, queue, Fair, fair, head, all_bytes}
-use Rattle.tva_drr.specs.Take.{take_leaves}
-use Rattle.tva_drr.specs.Fair.{IsFair}
-use Rattle.tva_drr.specs.Order.{GoesFirst, IsFront}
-use Rattle.tva_drr.specs.Sources.{TurnsOver}
-use Rattle.tva_drr.specs.declared.served.Served.{Served}
-use Rattle.tva_drr.specs.Rows.{RowOf, queues_in}
+use Rattle.tva_drr.proofs.Common.{◌≡◌, ◌+◌, ◌-◌, ◌^◌, ◌<◌, Option, Some, IfSome, ap, sym, ◌∙◌, subst, All, option_map, Queue, queue, Fair, fair, head, all_bytes, take_leaves, IsFair, GoesFirst, IsFront, TurnsOver, Served, RowOf, queues_in}
 use Rattle.tva_drr.proofs.OrderLaws.{goes_first}
 use Rattle.tva_drr.proofs.Keeps.{all_room-popped, keeps-taken, with_length}
 use Rattle.tva_drr.proofs.Rows.{front_covers, front-head, queues-popped, turns_after}

@@ -1,6 +1,4 @@
-use Rattle.std.proofs.Common.{◌≡◌, not, ap, sym, subst}
-use Rattle.tva_drr.specs.Queues.{Fair}
-use Rattle.tva_drr.specs.Offer.{lacks_queue}
+use Rattle.tva_drr.proofs.Common.{◌≡◌, not, ap, sym, subst, Fair, lacks_queue}
 use Rattle.tva_drr.proofs.Rows.{queue_lacked}
 use Rattle.tva_drr.proofs.fair_queues.FairQueues.takes_key.Goals as goal
 

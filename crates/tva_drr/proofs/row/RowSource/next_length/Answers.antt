@@ -1,6 +1,4 @@
-use Rattle.std.proofs.Common.{◌≡◌, [], sym, ap, ◌∙◌, subst}
-use Rattle.std.specs.Option.{option_copied}
-use Rattle.tva_drr.specs.Rows.{RowOf, row}
+use Rattle.tva_drr.proofs.Common.{◌≡◌, [], sym, ap, ◌∙◌, subst, option_copied, RowOf, row}
 use Rattle.tva_drr.proofs.Rows.{none_got}
 use Rattle.tva_drr.proofs.row.RowSource.next_length.Goals as goal
 

@@ -1,6 +1,4 @@
-use Rattle.std.proofs.Common.{◌≡◌, sym, ap, ◌∙◌, subst, ◌<◌, length, get_or, set}
-use Rattle.tva_drr.specs.Sources.{TurnsOver, served, turns_over}
-use Rattle.tva_drr.specs.declared.served.Served.{Served}
+use Rattle.tva_drr.proofs.Common.{◌≡◌, sym, ap, ◌∙◌, subst, ◌<◌, length, get_or, set, TurnsOver, served, turns_over, Served}
 use Rattle.tva_drr.proofs.Sources.{kept-set, emptied_at}
 use Rattle.tva_drr.proofs.turning.Turns.put_at.Goals as goal
 

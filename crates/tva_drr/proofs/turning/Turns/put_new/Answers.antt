@@ -1,6 +1,4 @@
-use Rattle.std.proofs.Common.{sym, ap, ◌∙◌, arith, ◌∷◌, [], ◌++◌, length, ◌==◌, cond}
-use Rattle.tva_index.specs.KeyRing.{Ring}
-use Rattle.tva_drr.specs.Sources.{TurnsOver, served, turns_over}
+use Rattle.tva_drr.proofs.Common.{sym, ap, ◌∙◌, arith, ◌∷◌, [], ◌++◌, length, ◌==◌, cond, Ring, TurnsOver, served, turns_over}
 use Rattle.tva_drr.proofs.Sources.{kept-new, spare_is}
 use Rattle.tva_drr.proofs.turning.Turns.put_new.Goals as goal
 

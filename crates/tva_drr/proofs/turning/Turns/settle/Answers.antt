@@ -1,7 +1,5 @@
-use Rattle.std.proofs.Common.{◌+◌, ◌^◌, ◌<◌, All, length, sym, subst, arith, IsNone, refl}
-use Rattle.std.proofs.lemmas.Bool.Decides.{nat_tests}
-use Rattle.tva_drr.specs.declared.served.Served.{Served}
-use Rattle.tva_drr.specs.Sources.{TurnsOver}
+use Rattle.tva_drr.proofs.Common.{◌+◌, ◌^◌, ◌<◌, length, sym, subst, arith, IsNone, refl, nat_tests, Served, TurnsOver}
+use Rattle.std.proofs.Common.{All}
 use Rattle.tva_drr.proofs.Sources.{next_left, next_turned, kept-left, kept-turned}
 use Rattle.tva_drr.proofs.turning.Turns.settle.Goals as goal
 

@@ -1,6 +1,4 @@
-use Rattle.std.proofs.Common.{sym, ap, subst}
-use Rattle.tva_flow.specs.Stands.{Cache, StandsFor}
-use Rattle.tva_flow.specs.Places.{AreShown}
+use Rattle.tva_flow.proofs.Common.{sym, ap, subst, Cache, StandsFor, AreShown}
 use Rattle.tva_flow.proofs.Near.{near-later}
 use Rattle.tva_flow.proofs.Timely.{list-timely}
 use Rattle.tva_flow.proofs.cache.FlowCache.admit_list_at.Goals as goal

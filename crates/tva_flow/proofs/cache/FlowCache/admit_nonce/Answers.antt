@@ -1,7 +1,4 @@
-use Rattle.std.proofs.Common.{◌≡◌, ℕ, ◌≤◌, Bool, false, ltb, sym, ap, subst, arith}
-use Rattle.std.proofs.lemmas.Bool.Decides.{nat_tests}
-use Rattle.tva_flow.specs.Stands.{Cache, StandsFor}
-use Rattle.tva_flow.specs.Places.{AreShown}
+use Rattle.tva_flow.proofs.Common.{◌≡◌, ℕ, ◌≤◌, Bool, false, ltb, sym, ap, subst, arith, nat_tests, Cache, StandsFor, AreShown}
 use Rattle.tva_flow.proofs.Admit.{answers-none, answers-ended}
 use Rattle.tva_flow.proofs.Near.{near-later}
 use Rattle.tva_flow.proofs.Timely.{nonce-timely}

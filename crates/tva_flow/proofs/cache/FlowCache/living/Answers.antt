@@ -1,8 +1,4 @@
-use Rattle.std.proofs.Common.{ap, sym, ◌∙◌, subst, arith, ltb}
-use Rattle.std.proofs.lemmas.List.Sums.{count_by-le-length}
-use Rattle.tva_flow.specs.declared.kept.Entry.{Entry}
-use Rattle.tva_flow.specs.Stands.{Cache}
-use Rattle.tva_flow.specs.Stands.{StandsFor}
+use Rattle.tva_flow.proofs.Common.{ap, sym, ◌∙◌, subst, arith, ltb, count_by-le-length, Entry, Cache, StandsFor}
 use Rattle.tva_flow.proofs.Counting.{living_is}
 use Rattle.tva_flow.proofs.cache.FlowCache.living.Goals as goal
 

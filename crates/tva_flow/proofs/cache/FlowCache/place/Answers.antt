@@ -1,6 +1,4 @@
-use Rattle.std.proofs.Common.{◌<◌, length, subst}
-use Rattle.std.specs.Option.{IfSome}
-use Rattle.tva_flow.specs.Stands.{Cache}
+use Rattle.tva_flow.proofs.Common.{◌<◌, length, subst, IfSome, Cache}
 use Rattle.tva_flow.proofs.Shown.{within}
 use Rattle.tva_flow.proofs.cache.FlowCache.place.Goals as goal
 

@@ -1,5 +1,4 @@
-use Rattle.std.proofs.Common.{[], ◌∷◌, ◌++◌, ap}
-use Rattle.tva_flow.specs.Index.{Kept, kept}
+use Rattle.tva_flow.proofs.Common.{[], ◌∷◌, ◌++◌, ap, Kept, kept}
 use Rattle.tva_flow.proofs.table.Entries.push.Goals as goal
 
 pub returns : goal.returns

@@ -1,5 +1,4 @@
-use Rattle.std.proofs.Common.{◌<◌, length, set, ap, arith}
-use Rattle.tva_flow.specs.Index.{Kept, kept}
+use Rattle.tva_flow.proofs.Common.{◌<◌, length, set, ap, arith, Kept, kept}
 use Rattle.tva_flow.proofs.Indexed.{indexed-replace}
 use Rattle.tva_flow.proofs.table.Entries.replace.Goals as goal
 

@@ -1,5 +1,4 @@
-use Rattle.std.proofs.Common.{◌≡◌, ◌<◌, length, get_or, set, ap, subst, arith}
-use Rattle.tva_flow.specs.Index.{Kept, kept}
+use Rattle.tva_flow.proofs.Common.{◌≡◌, ◌<◌, length, get_or, set, ap, subst, arith, Kept, kept}
 use Rattle.tva_flow.proofs.Indexed.{indexed-rewrite, some_place}
 use Rattle.tva_flow.proofs.table.Entries.rewrite.Goals as goal
 

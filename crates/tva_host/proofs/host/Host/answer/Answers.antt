@@ -1,8 +1,4 @@
-use Rattle.std.proofs.Common.{sym, subst, ap, ◌∙◌}
-use Rattle.std.specs.Option.{is_some}
-use Rattle.tva_policy.specs.Grants.{Decided, grant_decision}
-use Rattle.tva_host.specs.Receiving.{after_answer, answer_to_claim, claim_in}
-use Rattle.tva_host.specs.Stands.{HostData, host_data, Keeps}
+use Rattle.tva_host.proofs.Common.{sym, subst, ap, ◌∙◌, is_some, Decided, grant_decision, after_answer, answer_to_claim, claim_in, HostData, host_data, Keeps}
 use Rattle.tva_host.proofs.Standing.{noted, rights-fit, some-fit, has-deed}
 use Rattle.tva_host.proofs.Hearing.{keeps-answer, answer-nobody, keeps-nobody}
 use Rattle.tva_host.proofs.host.Host.answer.Goals as goal

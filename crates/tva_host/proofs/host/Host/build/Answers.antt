@@ -1,8 +1,4 @@
-use Rattle.std.proofs.Common.{◌≤◌, refl, ap, sym, subst, arith}
-use Rattle.tva_base.specs.declared.plan.HostPlan.{HostPlan}
-use Rattle.tva_sender.specs.Book.{Book}
-use Rattle.tva_host.specs.Stands.{host_data}
-use Rattle.tva_host.specs.Sound.{HasHistory}
+use Rattle.tva_host.proofs.Common.{◌≤◌, refl, ap, sym, subst, arith, HostPlan, Book, host_data, HasHistory}
 use Rattle.tva_host.proofs.Standing.{has-beginning, first-nonce}
 use Rattle.tva_host.proofs.host.Host.build.Goals as goal
 

@@ -1,8 +1,4 @@
-use Rattle.std.proofs.Common.{ℕ, ap, subst, ◌∙◌, ◌∷◌, [], cond}
-use Rattle.tva_shim.specs.declared.kinds.ReturnInfo.{ReturnInfo}
-use Rattle.tva_shim.specs.Shims.{IsReturn}
-use Rattle.tva_sender.specs.Contacts.{Taken, Notice, takes}
-use Rattle.tva_sender.specs.Book.{Book, of_peer}
+use Rattle.tva_host.proofs.Common.{ℕ, ap, subst, ◌∙◌, ◌∷◌, [], cond, ReturnInfo, IsReturn, Taken, Notice, takes, Book, of_peer}
 use Rattle.tva_host.proofs.Standing.{showable-push, showable-granted, has-book}
 use Rattle.tva_host.proofs.host.Host.hear.Goals as goal
 

@@ -1,6 +1,4 @@
-use Rattle.std.proofs.Common.{◌≤◌, ap, sym, subst}
-use Rattle.tva_host.specs.Calls.{Injected, history_of, last_time}
-use Rattle.tva_host.specs.Stands.{HostData}
+use Rattle.tva_host.proofs.Common.{◌≤◌, ap, sym, subst, Injected, history_of, last_time, HostData}
 use Rattle.tva_host.proofs.Calls.{stands-push}
 use Rattle.tva_host.proofs.host.Host.inject.Goals as goal
 

@@ -1,5 +1,4 @@
-use Rattle.std.proofs.Common.{sym, subst}
-use Rattle.tva_host.specs.Stands.{HostData, Keeps}
+use Rattle.tva_host.proofs.Common.{sym, subst, HostData, Keeps}
 use Rattle.tva_host.proofs.Standing.{has-sent, keeps-sent}
 use Rattle.tva_host.proofs.host.Host.note.Goals as goal
 

@@ -1,9 +1,5 @@
-use Rattle.std.proofs.Common.{ℕ, ◌∷◌, [], ◌++◌, ap, sym, subst, arith}
-use Rattle.tva_sender.specs.Contacts.{Prepared}
-use Rattle.tva_sender.specs.Shapes.{length_of}
-use Rattle.tva_sender.specs.Showable.{IsShowable, AreShowable}
-use Rattle.tva_sender.specs.Book.{Book, StandsFor}
-use Rattle.tva_host.specs.Stands.{HostData}
+use Rattle.tva_host.proofs.Common.{ℕ, ◌∷◌, [], ◌++◌, ap, sym, subst, arith, Prepared, length_of, IsShowable, AreShowable, Book, HostData}
+use Rattle.tva_sender.specs.Book.{StandsFor}
 use Rattle.tva_host.proofs.Standing.{has-prepared}
 use Rattle.tva_host.proofs.host.Host.prepare.Goals as goal
 

@@ -1,14 +1,5 @@
-use Rattle.std.proofs.Common.{◌≡◌, eqb, ap, sym, subst, ◌∙◌, true, false, Option, arith}
-use Rattle.std.proofs.Math.Nat.{le_refl}
-use Rattle.tva_base.specs.declared.plan.HostPlan.{HostPlan}
-use Rattle.tva_shim.specs.declared.kinds.ReturnInfo.{ReturnInfo}
-use Rattle.tva_shim.specs.Packets.{PacketData}
+use Rattle.tva_host.proofs.Common.{◌≡◌, eqb, ap, sym, subst, ◌∙◌, true, false, Option, arith, le_refl, HostPlan, ReturnInfo, PacketData, Receipt, back_in, after_back, became_of, claim_in, answer_to_claim, brought_by, after_answer, reply_of, after_reply, before_reply, receipt_of, after_receipt, Received, history_of, HostData, host_data, Keeps}
 use Rattle.tva_shim.specs.Fields.{packet_of_fields}
-use Rattle.tva_host.specs.declared.made.Receipt.{Receipt}
-use Rattle.tva_shim.specs.Shows.{back_in}
-use Rattle.tva_host.specs.Receiving.{after_back, became_of, claim_in, answer_to_claim, brought_by, after_answer, reply_of, after_reply, before_reply, receipt_of, after_receipt}
-use Rattle.tva_host.specs.Calls.{Received, history_of}
-use Rattle.tva_host.specs.Stands.{HostData, host_data, Keeps}
 use Rattle.tva_host.proofs.Standing.{timed, keeps-timed}
 use Rattle.tva_host.proofs.Hearing.{receipt-stray, keeps-stray, receipt-here, keeps-here, receipt-received}
 use Rattle.tva_host.proofs.Calls.{stands-push}

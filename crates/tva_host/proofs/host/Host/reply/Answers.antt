@@ -1,12 +1,5 @@
-use Rattle.std.proofs.Common.{◌≡◌, ℕ, ◌+◌, ◌∙◌, ap}
+use Rattle.tva_host.proofs.Common.{◌≡◌, ℕ, ◌+◌, ◌∙◌, ap, ShimData, return_size, upper_size, with_prepared, next_made, shim_of, body_of, HostData}
 use Rattle.tva_shim.specs.declared.packets.Carried.TheVariants as carried
-use Rattle.tva_shim.specs.Shims.{ShimData}
-use Rattle.tva_shim.specs.Layout.{return_size}
-use Rattle.tva_shim.specs.Packets.{upper_size}
-use Rattle.tva_host.specs.History.{with_prepared}
-use Rattle.tva_host.specs.Sending.{next_made, shim_of}
-use Rattle.tva_host.specs.Receiving.{body_of}
-use Rattle.tva_host.specs.Stands.{HostData}
 use Rattle.tva_host.proofs.Making.{made-next, reply-made, keeps-reply}
 use Rattle.tva_host.proofs.host.Host.reply.Goals as goal
 

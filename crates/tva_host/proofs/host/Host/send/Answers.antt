@@ -1,9 +1,4 @@
-use Rattle.std.proofs.Common.{◌≡◌, ℕ, ap, sym, subst, ◌∙◌, arith}
-use Rattle.tva_policy.specs.Grants.{Sent}
-use Rattle.tva_host.specs.History.{with_deed, with_prepared}
-use Rattle.tva_host.specs.Sending.{carried_by}
-use Rattle.tva_host.specs.Calls.{Intended, history_of}
-use Rattle.tva_host.specs.Stands.{HostData, host_data, Keeps}
+use Rattle.tva_host.proofs.Common.{◌≡◌, ℕ, ap, sym, subst, ◌∙◌, arith, Sent, with_deed, with_prepared, carried_by, Intended, history_of, HostData, host_data, Keeps}
 use Rattle.tva_host.proofs.Standing.{keeps-timed}
 use Rattle.tva_host.proofs.Making.{made-next, made-intended, keeps-intended}
 use Rattle.tva_host.proofs.Calls.{stands-push}

@@ -1,5 +1,4 @@
-use Rattle.std.proofs.Common.{◌≡◌, ◌<◌, Some, None, get_or, length, ap, sym, subst, arith}
-use Rattle.tva_index.specs.Buckets.{Placed, IsLastBelow}
+use Rattle.tva_index.proofs.Common.{◌≡◌, ◌<◌, Some, None, get_or, length, ap, sym, subst, arith, Placed, IsLastBelow}
 use Rattle.tva_index.proofs.Chains.{step_read}
 use Rattle.tva_index.proofs.buckets.Buckets.before.Goals as goal
 

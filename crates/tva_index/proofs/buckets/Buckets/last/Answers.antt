@@ -1,5 +1,4 @@
-use Rattle.std.proofs.Common.{◌<◌, length, ap, sym, subst, arith}
-use Rattle.tva_index.specs.Buckets.{Placed, IsLastBelow}
+use Rattle.tva_index.proofs.Common.{◌<◌, length, ap, sym, subst, arith, Placed, IsLastBelow}
 use Rattle.tva_index.proofs.Chains.{start_read}
 use Rattle.tva_index.proofs.buckets.Buckets.last.Goals as goal
 

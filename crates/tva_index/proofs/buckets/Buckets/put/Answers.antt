@@ -1,6 +1,4 @@
-use Rattle.std.proofs.Common.{◌≡◌, ℕ, Option, Some, None, List, set, length, ap, ◌∙◌}
-use Rattle.std.proofs.lemmas.List.{set-set}
-use Rattle.tva_index.specs.Buckets.{Placed, placed}
+use Rattle.tva_index.proofs.Common.{◌≡◌, ℕ, Option, Some, None, List, set, length, ap, ◌∙◌, set-set, Placed, placed}
 use Rattle.tva_index.proofs.buckets.Buckets.put.Goals as goal
 
 pub returns : goal.returns

@@ -1,6 +1,4 @@
-use Rattle.std.proofs.Common.{◌≡◌, ℕ, List, length, map, Some, subst, arith}
-use Rattle.std.proofs.lemmas.List.{length-drop, length-map}
-use Rattle.tva_index.specs.Lowest.{IsLeastPlace}
+use Rattle.tva_index.proofs.Common.{◌≡◌, ℕ, List, length, map, Some, subst, arith, length-drop, length-map, IsLeastPlace}
 use Rattle.tva_index.proofs.lowest.Lowest.least.Goals as goal
 
 pub returns-then-self-eq0 : goal.returns-then-self-eq0

@@ -1,8 +1,5 @@
-use Rattle.std.proofs.Common.{◌≡◌, ◌+◌, ◌-◌, ◌*◌, ◌/◌, ◌<◌, ℕ, Bool, true, false, eqb, List, length, drop, map, set, sym, ap, ◌∙◌, subst, arith}
-use Rattle.std.proofs.lemmas.Bool.{eqb-true}
+use Rattle.tva_index.proofs.Common.{◌≡◌, ◌+◌, ◌-◌, ◌*◌, ◌/◌, ◌<◌, ℕ, Bool, true, false, eqb, List, length, drop, map, set, sym, ap, ◌∙◌, subst, arith, eqb-true, drop-set-add, length-drop, length-map, map-set, AreNodesBut}
 use Rattle.std.proofs.lemmas.Bool.Decides.{nat_tests}
-use Rattle.std.proofs.lemmas.List.{drop-set-add, length-drop, length-map, map-set}
-use Rattle.tva_index.specs.Tree.{AreNodesBut}
 use Rattle.tva_index.proofs.Nodes.{least_at, least_written, least_kept, nodes-leaf, number_at}
 use Rattle.tva_index.proofs.lowest.Lowest.put.Goals as goal
 

@@ -1,7 +1,4 @@
-use Rattle.std.proofs.Common.{◌≡◌, ◌++◌, ◌*◌, ◌-◌, ◌<◌, ◌∙◌, ℕ, List, [], length, drop, map, take, replicate, Some, sym, ap, ap₂, subst, arith}
-use Rattle.std.proofs.lemmas.List.{drop-replicate, get_or-replicate, length-replicate}
-use Rattle.std.proofs.Math.Seq.{take-nil}
-use Rattle.tva_index.specs.Lowest.{IsLeastPlace}
+use Rattle.tva_index.proofs.Common.{◌≡◌, ◌++◌, ◌*◌, ◌-◌, ◌<◌, ◌∙◌, ℕ, List, [], length, drop, map, take, replicate, Some, sym, ap, ap₂, subst, arith, drop-replicate, get_or-replicate, length-replicate, take-nil, IsLeastPlace}
 use Rattle.tva_index.proofs.Nodes.{all_zero, nodes_zero}
 use Rattle.tva_index.proofs.lowest.Lowest.with_places.Goals as goal
 

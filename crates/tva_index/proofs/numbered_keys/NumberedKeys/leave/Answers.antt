@@ -1,6 +1,4 @@
-use Rattle.std.proofs.Common.{◌≡◌, ◌∷◌, ℕ, List, subst, arith}
-use Rattle.tva_index.specs.Numbers.{AreNumbered}
-use Rattle.tva_index.specs.Bits.{links_of, entries_of}
+use Rattle.tva_index.proofs.Common.{◌≡◌, ◌∷◌, ℕ, List, subst, arith, AreNumbered, links_of, entries_of}
 use Rattle.tva_index.proofs.Ringed.{front_there, numbered_leave}
 use Rattle.tva_index.proofs.numbered_keys.NumberedKeys.leave.Goals as goal
 

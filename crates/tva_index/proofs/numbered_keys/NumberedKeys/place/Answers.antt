@@ -1,6 +1,4 @@
-use Rattle.std.proofs.Common.{ap, ◌∙◌}
-use Rattle.tva_index.specs.KeyRing.{Ring, place_in}
-use Rattle.tva_index.specs.Bits.{links_of, entries_of}
+use Rattle.tva_index.proofs.Common.{ap, ◌∙◌, Ring, place_in, links_of, entries_of}
 use Rattle.tva_index.proofs.Ringed.{numbered_place, absent_place}
 use Rattle.tva_index.proofs.numbered_keys.NumberedKeys.place.Goals as goal
 

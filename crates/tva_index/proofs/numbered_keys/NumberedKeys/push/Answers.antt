@@ -1,6 +1,4 @@
-use Rattle.std.proofs.Common.{◌≡◌, ◌+◌, ◌%◌, ◌^◌, ◌<◌, ◌++◌, ◌∷◌, [], ℕ, length, None, sym, ap, subst, arith}
-use Rattle.tva_index.specs.KeyRing.{Ring, ring, place_in}
-use Rattle.tva_index.specs.Bits.{links_of, entries_of, IsPut}
+use Rattle.tva_index.proofs.Common.{◌≡◌, ◌+◌, ◌%◌, ◌^◌, ◌<◌, ◌++◌, ◌∷◌, [], ℕ, length, None, sym, ap, subst, arith, Ring, ring, place_in, links_of, entries_of, IsPut}
 use Rattle.tva_index.proofs.Ringed.{new_absent, numbered_push}
 use Rattle.tva_index.proofs.numbered_keys.NumberedKeys.push.Goals as goal
 

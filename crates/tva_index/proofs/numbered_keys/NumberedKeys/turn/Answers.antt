@@ -1,6 +1,4 @@
-use Rattle.std.proofs.Common.{◌≡◌, ◌+◌, ◌%◌, ◌^◌, ◌∷◌, ℕ, List, length, subst, arith}
-use Rattle.tva_index.specs.Bits.{links_of, entries_of, IsWritten}
-use Rattle.tva_index.specs.Numbers.{AreNumbered}
+use Rattle.tva_index.proofs.Common.{◌≡◌, ◌+◌, ◌%◌, ◌^◌, ◌∷◌, ℕ, List, length, subst, arith, links_of, entries_of, IsWritten, AreNumbered}
 use Rattle.tva_index.proofs.Ringed.{front_there, numbered_turn}
 use Rattle.tva_index.proofs.numbered_keys.NumberedKeys.turn.Goals as goal
 

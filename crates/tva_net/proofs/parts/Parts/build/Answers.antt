@@ -1,4 +1,4 @@
-use Rattle.std.proofs.Common.{refl}
+use Rattle.tva_net.proofs.Common.{refl}
 use Rattle.tva_net.proofs.Begin.{nothing_given}
 use Rattle.tva_net.proofs.parts.Parts.build.Goals as goal
 

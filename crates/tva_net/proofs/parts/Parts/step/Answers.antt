@@ -1,7 +1,5 @@
-use Rattle.std.proofs.Common.{Some, None, refl, sym, subst}
+use Rattle.tva_net.proofs.Common.{Some, None, refl, sym, subst, state_of, work_of, WorksUpTo}
 use Rattle.tva_net.specs.declared.works.Works.{Works}
-use Rattle.tva_net.specs.Kept.{state_of, work_of}
-use Rattle.tva_net.specs.Work.{WorksUpTo}
 use Rattle.tva_net.proofs.Answering.{answer_gives, answer_refuses, answer_sound, can_of, ended_sound, has_ended, has_room}
 use Rattle.tva_net.proofs.Ends.{told_same}
 use Rattle.tva_net.proofs.parts.Parts.step.Goals as goal

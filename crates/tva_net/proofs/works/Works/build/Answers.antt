@@ -1,5 +1,4 @@
-use Rattle.std.proofs.Common.{◌≡◌, ◌+◌, refl, ◌∙◌, ap}
-use Rattle.tva_run.specs.Windows.{least_delay}
+use Rattle.tva_net.proofs.Common.{◌≡◌, ◌+◌, refl, ◌∙◌, ap, least_delay}
 use Rattle.tva_net.proofs.Begin.{begins}
 use Rattle.tva_net.proofs.works.Works.build.Goals as goal
 

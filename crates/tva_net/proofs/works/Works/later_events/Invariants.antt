@@ -1,9 +1,4 @@
-use Rattle.std.proofs.Common.{◌+◌, ◌-◌}
-use Rattle.std.specs.List.{AllZip}
-use Rattle.tva_net.specs.Kept.{work_of}
-use Rattle.tva_net.specs.Nets.{GrowsFrom}
-use Rattle.tva_mail.specs.Times.{AreNoted}
-use Rattle.tva_net.specs.Work.{AddsNothing, CanWork, OfEachRun}
+use Rattle.tva_net.proofs.Common.{◌+◌, ◌-◌, AllZip, work_of, GrowsFrom, AreNoted, AddsNothing, CanWork, OfEachRun}
 use Rattle.tva_net.proofs.works.Works.later_events.Given as goal
 
 abbrev pub invariant-loop-events : goal.invariant-loop-events

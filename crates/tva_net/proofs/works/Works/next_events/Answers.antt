@@ -1,6 +1,4 @@
-use Rattle.std.proofs.Common.{rules, ◌≡◌, ◌<◌, List, length, arith}
-use Rattle.tva_base.specs.declared.event.Event.{Event}
-use Rattle.tva_net.specs.Kept.{work_of}
+use Rattle.tva_net.proofs.Common.{rules, ◌≡◌, ◌<◌, List, length, arith, Event, work_of}
 use Rattle.tva_net.proofs.Lists.{nothing_in}
 use Rattle.tva_net.proofs.Ends.{can_still, first_then, passes_none, passes_one, passes_to_none, passes_to_some, told_more}
 use Rattle.tva_net.proofs.works.Works.next_events.Goals as goal

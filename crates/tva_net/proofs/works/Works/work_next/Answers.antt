@@ -1,11 +1,4 @@
-use Rattle.std.proofs.Common.{rules, ◌≡◌, ◌+◌, min, List, Option, Some, None, sym, subst, ◌∙◌, arith}
-use Rattle.std.specs.List.{AllByRecursion}
-use Rattle.std.proofs.lemmas.List.{with_items_is}
-use Rattle.tva_base.specs.declared.packet.Time.{Time}
-use Rattle.tva_node.specs.States.{NodeState, Stands}
-use Rattle.tva_mail.specs.News.{IsFirstTime}
-use Rattle.tva_net.specs.Kept.{work_of}
-use Rattle.tva_mail.specs.Times.{AreNoted}
+use Rattle.tva_net.proofs.Common.{rules, ◌≡◌, ◌+◌, min, List, Option, Some, None, sym, subst, ◌∙◌, arith, AllByRecursion, with_items_is, Time, NodeState, Stands, IsFirstTime, work_of, AreNoted}
 use Rattle.tva_net.proofs.Ends.{can_stand, ends_window, none_left, room_in_time, told_same, window_works}
 use Rattle.tva_net.proofs.works.Works.work_next.Goals as goal
 

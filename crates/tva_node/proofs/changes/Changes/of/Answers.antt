@@ -1,10 +1,5 @@
-use Rattle.std.proofs.Common.{rules, ◌≡◌, ℕ, List, map, sym, subst}
-use Rattle.std.proofs.lemmas.List.Sorted.{IsNonDecreasingBy-from_sort_by_key, answers_always}
-use Rattle.tva_base.specs.declared.addresses.Prefix.{Prefix}
-use Rattle.tva_base.specs.declared.packet.Time.{Time}
-use Rattle.tva_base.specs.Changes.{of_prefix}
+use Rattle.tva_node.proofs.Common.{rules, ◌≡◌, ℕ, List, map, sym, subst, IsNonDecreasingBy-from_sort_by_key, answers_always, Prefix, Time, of_prefix, AreByTime, move_time}
 use Rattle.tva_base.specs.Plan.{AreRising}
-use Rattle.tva_node.specs.Changes.{AreByTime, move_time}
 use Rattle.tva_node.proofs.Making.{by_time}
 use Rattle.tva_node.proofs.changes.Changes.of.Goals as goal
 

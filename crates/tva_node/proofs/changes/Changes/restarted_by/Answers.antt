@@ -1,4 +1,4 @@
-use Rattle.std.proofs.Common.{[], arith}
+use Rattle.tva_node.proofs.Common.{[], arith}
 use Rattle.tva_node.proofs.Making.{restart_more}
 use Rattle.tva_node.proofs.changes.Changes.restarted_by.Goals as goal
 

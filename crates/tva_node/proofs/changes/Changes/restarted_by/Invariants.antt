@@ -1,5 +1,4 @@
-use Rattle.std.proofs.Common.{length, ◌-◌, ◌≡◌}
-use Rattle.tva_node.specs.Making.{IsRestarted}
+use Rattle.tva_node.proofs.Common.{length, ◌-◌, ◌≡◌, IsRestarted}
 use Rattle.tva_node.proofs.changes.Changes.restarted_by.Given as goal
 
 abbrev pub invariant-loop-self : goal.invariant-loop-self

@@ -1,10 +1,4 @@
-use Rattle.std.proofs.Common.{rules, ◌≡◌, ℕ, ◌<◌, ◌≤◌, List, Option, Some, length, map, sym, subst, ◌∙◌, ap, arith}
-use Rattle.std.proofs.lemmas.List.{get_or_default}
-use Rattle.tva_base.specs.Plan.{links_of}
-use Rattle.tva_log.specs.Sites.{AreRising}
-use Rattle.tva_node.specs.declared.links.Link.{Link}
-use Rattle.tva_node.specs.Links.{asked_by, with_next}
-use Rattle.tva_node.specs.Pairs.{link_pair}
+use Rattle.tva_node.proofs.Common.{rules, ◌≡◌, ℕ, ◌<◌, ◌≤◌, List, Option, Some, length, map, sym, subst, ◌∙◌, ap, arith, get_or_default, links_of, AreRising, Link, asked_by, with_next, link_pair}
 use Rattle.tva_node.proofs.Asked.{asked_no_rank, asked_nothing, asked_rank}
 use Rattle.tva_node.proofs.links.Links.ask.Goals as goal
 use Rattle.tva_node.proofs.links.Links.ask.Goals.{else-place-len-via-then-place-len+else-index-number, else-place-len-via-else-place-len}

@@ -1,6 +1,4 @@
-use Rattle.std.proofs.Common.{Some, None, List, sym, subst, ◌∙◌}
-use Rattle.tva_node.specs.declared.links.Link.{Link}
-use Rattle.tva_node.specs.Links.{IsFirstAsked}
+use Rattle.tva_node.proofs.Common.{Some, None, List, sym, subst, ◌∙◌, Link, IsFirstAsked}
 use Rattle.tva_node.proofs.Asked.{first_asked, none_asked}
 use Rattle.tva_node.proofs.links.Links.due.Goals as goal
 

@@ -1,5 +1,4 @@
-use Rattle.std.proofs.Common.{◌∙◌, ap}
-use Rattle.tva_node.specs.Links.{least_next}
+use Rattle.tva_node.proofs.Common.{◌∙◌, ap, least_next}
 use Rattle.tva_node.proofs.Asked.{first_is}
 use Rattle.tva_node.proofs.links.Links.first.Goals as goal
 

@@ -1,9 +1,4 @@
-use Rattle.std.proofs.Common.{rules, ◌≡◌, ℕ, List, length, map, sym, subst, ◌∙◌, ap, arith}
-use Rattle.tva_base.specs.declared.plan.LinkPlan.{LinkPlan}
-use Rattle.tva_base.specs.Plan.{links_of}
-use Rattle.tva_log.specs.Sites.{AreRising}
-use Rattle.tva_node.specs.Links.{AreNoKeys}
-use Rattle.tva_node.specs.Pairs.{link_pair}
+use Rattle.tva_node.proofs.Common.{rules, ◌≡◌, ℕ, List, length, map, sym, subst, ◌∙◌, ap, arith, LinkPlan, links_of, AreRising, AreNoKeys, link_pair}
 use Rattle.tva_node.proofs.Asked.{few_links, first_keyed}
 use Rattle.tva_node.proofs.Posts.{pairs_first}
 use Rattle.tva_node.proofs.links.Links.of.Goals as goal

@@ -1,9 +1,4 @@
-use Rattle.std.proofs.Common.{[], map, sym, subst, ◌∙◌, ap}
-use Rattle.tva_plan.specs.declared.config.NodePlan.{NodePlan}
-use Rattle.tva_log.specs.Sites.{IsSite, site_of}
-use Rattle.tva_node.specs.Pairs.{link_pair}
-use Rattle.tva_node.specs.Besides.{RoleStands}
-use Rattle.tva_node.specs.States.{Stands, role_plan}
+use Rattle.tva_node.proofs.Common.{[], map, sym, subst, ◌∙◌, ap, NodePlan, IsSite, site_of, link_pair, RoleStands, Stands, role_plan}
 use Rattle.tva_node.proofs.Posts.{built, pairs_first}
 use Rattle.tva_node.proofs.node.Node.build_keeping.Goals as goal
 

@@ -1,7 +1,4 @@
-use Rattle.std.proofs.Common.{◌+◌, ◌<◌, List, Some, None, subst, arith}
-use Rattle.tva_log.specs.Entries.{Entry}
-use Rattle.tva_log.specs.NodeLog.{in_turn}
-use Rattle.tva_node.specs.States.{NodeState, IsFirstWork, StandsFor, state_of}
+use Rattle.tva_node.proofs.Common.{◌+◌, ◌<◌, List, Some, None, subst, arith, Entry, in_turn, NodeState, IsFirstWork, StandsFor, state_of}
 use Rattle.tva_node.proofs.Posts.{first_none, first_some}
 use Rattle.tva_node.proofs.node.Node.next_time.Goals as goal
 

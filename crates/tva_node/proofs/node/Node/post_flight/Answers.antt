@@ -1,7 +1,5 @@
-use Rattle.std.proofs.Common.{◌≤◌, sym, subst}
-use Rattle.tva_log.specs.Entries.{input_time}
+use Rattle.tva_node.proofs.Common.{◌≤◌, sym, subst, input_time, NodeState, Stands, gone_in, state_of}
 use Rattle.tva_waiting.specs.Inputs.{arrived}
-use Rattle.tva_node.specs.States.{NodeState, Stands, gone_in, state_of}
 use Rattle.tva_node.proofs.Posts.{posted_then}
 use Rattle.tva_node.proofs.node.Node.post_flight.Goals as goal
 

@@ -1,9 +1,5 @@
-use Rattle.std.proofs.Common.{◌≤◌, get_or, sym, subst}
-use Rattle.tva_log.specs.declared.kinds.Input.{Input}
-use Rattle.tva_log.specs.declared.kinds.Input.TheVariants.{FromTrace}
-use Rattle.tva_log.specs.Entries.{input_time}
+use Rattle.tva_node.proofs.Common.{◌≤◌, get_or, sym, subst, Input, FromTrace, input_time, Fits, NodeState, Stands, gone_in, state_of}
 use Rattle.tva_waiting.specs.Noted.{no_row}
-use Rattle.tva_node.specs.States.{Fits, NodeState, Stands, gone_in, state_of}
 use Rattle.tva_node.proofs.Posts.{posted_then}
 use Rattle.tva_node.proofs.node.Node.post_packed.Goals as goal
 

@@ -1,5 +1,4 @@
-use Rattle.std.proofs.Common.{◌≡◌, ◌-◌, ◌+◌, ◌≤◌, max}
-use Rattle.tva_node.specs.States.{Stands, Keeps, state_of}
+use Rattle.tva_node.proofs.Common.{◌≡◌, ◌-◌, ◌+◌, ◌≤◌, max, Stands, Keeps, state_of}
 use Rattle.tva_node.proofs.parts.Parts.advance.Given as goal
 
 abbrev pub invariant-loop-now : goal.invariant-loop-now

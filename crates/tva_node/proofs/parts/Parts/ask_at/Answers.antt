@@ -1,11 +1,5 @@
-use Rattle.std.proofs.Common.{◌≡◌, ◌+◌, ◌∷◌, [], ◌++◌, Option, Some, None, get_or, refl, subst, ◌∙◌, ap, arith}
-use Rattle.tva_shim.specs.Packets.{PacketData}
-use Rattle.tva_port.specs.declared.decision.Decision.TheVariants.{WaitUntil, Idle}
+use Rattle.tva_node.proofs.Common.{◌≡◌, ◌+◌, ◌∷◌, [], ◌++◌, Option, Some, None, get_or, refl, subst, ◌∙◌, ap, arith, PacketData, WaitUntil, Idle, decision_by, NodeState, gone_in, role_plan, site_at, state_of, Decides, DecidesAt, end_on, start_event, start_sending}
 use Rattle.tva_port.specs.declared.hand.Next.TheVariants.{Start}
-use Rattle.tva_port.specs.Hand.{decision_by}
-use Rattle.tva_node.specs.States.{NodeState, gone_in, role_plan, site_at, state_of}
-use Rattle.tva_node.specs.Steps.{Decides}
-use Rattle.tva_node.specs.Work.{DecidesAt, end_on, start_event, start_sending}
 use Rattle.tva_node.proofs.Decides.{by_packet, from_fields, keeps_put, on_both, read_busy, read_fits, read_out, read_rest, read_start}
 use Rattle.tva_node.proofs.Works.{pairs_put}
 use Rattle.tva_node.proofs.parts.Parts.ask_at.Goals as goal

@@ -1,6 +1,4 @@
-use Rattle.std.proofs.Common.{◌+◌, arith, subst, ◌∙◌}
-use Rattle.tva_node.specs.Links.{IsFirstAsked}
-use Rattle.tva_node.specs.States.{state_of}
+use Rattle.tva_node.proofs.Common.{◌+◌, arith, subst, ◌∙◌, IsFirstAsked, state_of}
 use Rattle.tva_node.proofs.Asked.{goes_on, goes_through}
 use Rattle.tva_node.proofs.Decides.{count_kept}
 use Rattle.tva_node.proofs.Zips.{keeps_on}

@@ -1,6 +1,4 @@
-use Rattle.std.proofs.Common.{◌≡◌, ◌≤◌, ℕ, length}
-use Rattle.tva_node.specs.States.{Keeps, state_of}
-use Rattle.tva_node.specs.Work.{DecidesAt}
+use Rattle.tva_node.proofs.Common.{◌≡◌, ◌≤◌, ℕ, length, Keeps, state_of, DecidesAt}
 use Rattle.tva_node.proofs.parts.Parts.decide_each.Given as goal
 
 -- so many links at least have decided

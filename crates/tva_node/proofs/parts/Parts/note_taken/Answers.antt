@@ -1,8 +1,4 @@
-use Rattle.std.proofs.Common.{◌≡◌, ℕ, ◌∷◌, [], map, Option, refl, ◌∙◌, ap}
-use Rattle.tva_node.specs.Links.{asked_by}
-use Rattle.tva_node.specs.Pairs.{link_pair}
-use Rattle.tva_node.specs.States.{gone_in, state_of}
-use Rattle.tva_node.specs.Work.{queued_on}
+use Rattle.tva_node.proofs.Common.{◌≡◌, ℕ, ◌∷◌, [], map, Option, refl, ◌∙◌, ap, asked_by, link_pair, gone_in, state_of, queued_on}
 use Rattle.tva_node.proofs.Waits.{asked_pairs}
 use Rattle.tva_node.proofs.Zips.{begins_same}
 use Rattle.tva_node.proofs.parts.Parts.note_taken.Goals as goal

@@ -1,6 +1,4 @@
-use Rattle.std.proofs.Common.{rules, ◌≡◌, arith, inl, inr}
-use Rattle.std.proofs.lemmas.Bool.{cases_lt}
-use Rattle.tva_node.specs.States.{state_of}
+use Rattle.tva_node.proofs.Common.{rules, ◌≡◌, arith, inl, inr, cases_lt, state_of}
 use Rattle.tva_node.proofs.Works.{goes_to}
 use Rattle.tva_node.proofs.parts.Parts.rest_until.Goals as goal
 

@@ -1,5 +1,4 @@
-use Rattle.std.proofs.Common.{◌∙◌, sym}
-use Rattle.tva_node.specs.States.{state_of}
+use Rattle.tva_node.proofs.Common.{◌∙◌, sym, state_of}
 use Rattle.tva_node.proofs.Works.{all_in}
 use Rattle.tva_node.proofs.parts.Parts.take_all.Goals as goal
 

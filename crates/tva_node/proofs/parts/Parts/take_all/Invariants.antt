@@ -1,6 +1,4 @@
-use Rattle.std.proofs.Common.{length}
-use Rattle.tva_node.specs.States.{Keeps, state_of}
-use Rattle.tva_node.specs.Work.{TakesAt}
+use Rattle.tva_node.proofs.Common.{length, Keeps, state_of, TakesAt}
 use Rattle.tva_node.proofs.parts.Parts.take_all.Given as goal
 
 abbrev pub invariant-loop-self : goal.invariant-loop-self

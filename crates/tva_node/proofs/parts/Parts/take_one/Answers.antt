@@ -1,11 +1,5 @@
-use Rattle.std.proofs.Common.{◌≡◌, ◌∷◌, [], map}
-use Rattle.tva_base.specs.declared.event.Event.{Event}
-use Rattle.tva_past.specs.Kept.{with_more}
-use Rattle.tva_log.specs.declared.kinds.Input.TheVariants.{FromTrace}
+use Rattle.tva_node.proofs.Common.{◌≡◌, ◌∷◌, [], map, Event, with_more, FromTrace, asked_by, state_of, TakesAt, queued_on}
 use Rattle.tva_waiting.specs.Inputs.{arrived}
-use Rattle.tva_node.specs.Links.{asked_by}
-use Rattle.tva_node.specs.States.{state_of}
-use Rattle.tva_node.specs.Work.{TakesAt, queued_on}
 use Rattle.tva_node.proofs.Decides.{on_both}
 use Rattle.tva_node.proofs.Taking.{take_fits, taken_then}
 use Rattle.tva_node.proofs.parts.Parts.take_one.Goals as goal

@@ -1,5 +1,4 @@
-use Rattle.std.proofs.Common.{arith}
-use Rattle.tva_node.specs.States.{state_of}
+use Rattle.tva_node.proofs.Common.{arith, state_of}
 use Rattle.tva_node.proofs.Works.{begins_at, work_late, worked_one}
 use Rattle.tva_node.proofs.parts.Parts.work_at.Goals as goal
 

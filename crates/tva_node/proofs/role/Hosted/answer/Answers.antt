@@ -1,12 +1,6 @@
-use Rattle.std.proofs.Common.{◌++◌, [], List, Option, sym, subst}
-use Rattle.std.specs.List.{cons_option}
-use Rattle.tva_base.specs.declared.packet.Outcome.{Outcome}
-use Rattle.tva_shim.specs.Packets.{class_by_shim}
+use Rattle.tva_node.proofs.Common.{◌++◌, [], List, Option, sym, subst, cons_option, Outcome, class_by_shim, Made, made_at, reply_at, reply_went}
 use Rattle.tva_port.specs.Log.{Entry}
 use Rattle.tva_port.specs.Stands.{StandsFor}
-use Rattle.tva_host.specs.declared.made.Made.{Made}
-use Rattle.tva_log.specs.Parts.{made_at, reply_at}
-use Rattle.tva_node.specs.Steps.{reply_went}
 use Rattle.tva_node.proofs.Roles.{entered_is}
 use Rattle.tva_node.proofs.role.Hosted.answer.Goals as goal
 

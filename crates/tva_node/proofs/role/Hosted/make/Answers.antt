@@ -1,15 +1,8 @@
-use Rattle.std.proofs.Common.{◌≡◌, ◌∷◌, [], ◌++◌, Option, sym, subst, append-nil}
-use Rattle.std.specs.List.{cons_option}
-use Rattle.std.specs.Option.{option_map}
-use Rattle.std.specs.Prelude.{IfOk}
-use Rattle.tva_host.specs.declared.made.Made.{Made}
-use Rattle.tva_host.specs.Calls.{Call, history_of}
-use Rattle.tva_transfer.specs.Files.{Filed, Ticked, first_segment, segment_due}
-use Rattle.tva_transfer.specs.Stands.{StandsFor, call_with, known, sent_with}
+use Rattle.tva_node.proofs.Common.{◌≡◌, ◌∷◌, [], ◌++◌, Option, sym, subst, append-nil, cons_option, option_map, IfOk, Made, Call, history_of, Filed, first_segment, segment_due, call_with, known, sent_with, act_of_row, call_of_row, made_for}
+use Rattle.tva_transfer.specs.Files.{Ticked}
+use Rattle.tva_transfer.specs.Stands.{StandsFor}
 use Rattle.tva_rows.specs.declared.rows.RowWhat.{RowWhat}
 use Rattle.tva_rows.specs.declared.rows.RowWhat.TheVariants as rows
-use Rattle.tva_log.specs.Parts.{act_of_row, call_of_row}
-use Rattle.tva_log.specs.Contents.{made_for}
 use Rattle.tva_node.proofs.Rows.{if_both, segment_call, tick_call}
 use Rattle.tva_node.proofs.role.Hosted.make.Goals as goal
 

@@ -1,13 +1,6 @@
-use Rattle.std.proofs.Common.{◌≡◌, ◌++◌, List, sym, ap, ◌∙◌, subst}
-use Rattle.tva_base.specs.declared.packet.Class.{Class}
-use Rattle.tva_base.specs.declared.packet.Outcome.{Outcome}
-use Rattle.tva_shim.specs.Packets.{class_by_shim}
-use Rattle.tva_shim.specs.Shows.{key_of}
-use Rattle.tva_port.specs.Hand.{answer_by}
+use Rattle.tva_node.proofs.Common.{◌≡◌, ◌++◌, List, sym, ap, ◌∙◌, subst, Class, Outcome, class_by_shim, key_of, answer_by, queue_answer, queued_by, waiting_after, entered_by, outcome_of}
 use Rattle.tva_port.specs.Log.{Entry}
 use Rattle.tva_port.specs.Stands.{StandsFor}
-use Rattle.tva_port.specs.Waiting.{queue_answer, queued_by, waiting_after}
-use Rattle.tva_router.specs.Handling.{entered_by, outcome_of}
 use Rattle.tva_node.proofs.Roles.{queued_to}
 use Rattle.tva_node.proofs.role.Hosted.queue.Goals as goal
 

@@ -1,9 +1,5 @@
-use Rattle.std.proofs.Common.{◌∙◌, ◌∷◌, [], ◌++◌, sym, subst, ap}
-use Rattle.tva_shim.specs.Packets.{PacketData}
-use Rattle.tva_host.specs.Calls.{Received}
-use Rattle.tva_transfer.specs.Files.{Came, answered}
-use Rattle.tva_transfer.specs.Stands.{CourierData, StandsFor}
-use Rattle.tva_log.specs.Parts.{acts, calls, files, port_logs}
+use Rattle.tva_node.proofs.Common.{◌∙◌, ◌∷◌, [], ◌++◌, sym, subst, ap, PacketData, Received, Came, answered, CourierData, acts, calls, files, port_logs}
+use Rattle.tva_transfer.specs.Stands.{StandsFor}
 use Rattle.tva_node.proofs.Roles.{host_arrival}
 use Rattle.tva_node.proofs.role.Hosted.receive.Goals as goal
 

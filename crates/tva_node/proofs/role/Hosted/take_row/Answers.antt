@@ -1,15 +1,6 @@
-use Rattle.std.proofs.Common.{◌≡◌, ◌∙◌, ◌∷◌, [], ◌++◌, Option, sym, subst, ap}
-use Rattle.std.specs.List.{cons_option}
-use Rattle.std.specs.Option.{option_map}
-use Rattle.tva_base.specs.declared.limits.LinkLimits.{LinkLimits}
-use Rattle.tva_shim.specs.Packets.{PacketData, class_by_shim}
-use Rattle.tva_port.specs.Stands.{PortData, StandsFor}
-use Rattle.tva_router.specs.Handling.{entered_by}
-use Rattle.tva_host.specs.declared.made.Made.{Made}
-use Rattle.tva_transfer.specs.Stands.{CourierData}
+use Rattle.tva_node.proofs.Common.{◌≡◌, ◌∙◌, ◌∷◌, [], ◌++◌, Option, sym, subst, ap, cons_option, option_map, LinkLimits, PacketData, class_by_shim, PortData, entered_by, Made, CourierData, act_of_row, acts, call_of_row, calls, port_logs, went_out}
+use Rattle.tva_port.specs.Stands.{StandsFor}
 use Rattle.tva_transfer.specs.Stands as courier
-use Rattle.tva_log.specs.Parts.{act_of_row, acts, call_of_row, calls, port_logs}
-use Rattle.tva_node.specs.Steps.{went_out}
 use Rattle.tva_node.proofs.Roles.{host_row, host_tick}
 use Rattle.tva_node.proofs.role.Hosted.take_row.Goals as goal
 

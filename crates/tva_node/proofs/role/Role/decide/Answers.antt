@@ -1,14 +1,4 @@
-use Rattle.std.proofs.Common.{◌≡◌, ◌∙◌, ◌++◌, refl, sym, subst, ap, arith}
-use Rattle.tva_base.specs.declared.limits.LinkLimits.{LinkLimits}
-use Rattle.tva_port.specs.Decide.{decision}
-use Rattle.tva_port.specs.Hand.{decision_by}
-use Rattle.tva_router.specs.Boots.{charges_of_boot}
-use Rattle.tva_log.specs.Parts.{charges, port_logs}
-use Rattle.tva_node.specs.declared.role.Role.{Role}
-use Rattle.tva_node.specs.declared.role.Hosted.{Hosted}
-use Rattle.tva_node.specs.Besides.{IsBy, RoleStands, StandsAsHost}
-use Rattle.tva_node.specs.States.{role_plan}
-use Rattle.tva_node.specs.Steps.{started_by}
+use Rattle.tva_node.proofs.Common.{◌≡◌, ◌∙◌, ◌++◌, refl, sym, subst, ap, arith, LinkLimits, decision, decision_by, charges_of_boot, charges, port_logs, Role, Hosted, IsBy, RoleStands, StandsAsHost, role_plan, started_by}
 use Rattle.tva_node.proofs.Roles.{host_decided, host_out, not_none, router_decided, router_has_out}
 use Rattle.tva_node.proofs.Making.{routed_same}
 use Rattle.tva_node.proofs.role.Role.decide.Goals as goal

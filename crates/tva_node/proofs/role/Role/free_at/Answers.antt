@@ -1,11 +1,4 @@
-use Rattle.std.proofs.Common.{◌≡◌, ◌∙◌, sym, subst, ap}
-use Rattle.tva_base.specs.declared.limits.LinkLimits.{LinkLimits}
-use Rattle.tva_port.specs.Log.{free_after}
-use Rattle.tva_router.specs.Boots.{charges_of_boot}
-use Rattle.tva_log.specs.Parts.{charges, port_logs}
-use Rattle.tva_node.specs.declared.role.Role.{Role}
-use Rattle.tva_node.specs.Besides.{RoleStands}
-use Rattle.tva_node.specs.States.{role_plan}
+use Rattle.tva_node.proofs.Common.{◌≡◌, ◌∙◌, sym, subst, ap, LinkLimits, free_after, charges_of_boot, charges, port_logs, Role, RoleStands, role_plan}
 use Rattle.tva_node.proofs.Roles.{host_out, not_none, router_has_out}
 use Rattle.tva_node.proofs.role.Role.free_at.Goals as goal
 

@@ -1,10 +1,5 @@
-use Rattle.std.proofs.Common.{subst}
-use Rattle.tva_base.specs.declared.event.Happened.{Happened}
-use Rattle.tva_log.specs.declared.kinds.Input.TheVariants.{FromTrace}
-use Rattle.tva_node.specs.declared.role.Role.{Role}
+use Rattle.tva_node.proofs.Common.{subst, Happened, FromTrace, Role, RoleStands, HostTook, Takes}
 use Rattle.tva_node.specs.declared.role.Role.TheVariants as roles
-use Rattle.tva_node.specs.Besides.{RoleStands}
-use Rattle.tva_node.specs.Steps.{HostTook, Takes}
 use Rattle.tva_node.proofs.Roles.{host_takes, if_ok}
 use Rattle.tva_node.proofs.role.Role.take_row.Goals as goal
 

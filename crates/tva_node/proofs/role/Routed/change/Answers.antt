@@ -1,7 +1,4 @@
-use Rattle.std.proofs.Common.{ℕ, sym, subst}
-use Rattle.tva_base.specs.declared.plan.RouterPlan.{RouterPlan}
-use Rattle.tva_node.specs.Changes.{restart_time}
-use Rattle.tva_node.specs.Making.{IsNextLater}
+use Rattle.tva_node.proofs.Common.{ℕ, sym, subst, RouterPlan, restart_time, IsNextLater}
 use Rattle.tva_node.proofs.Making.{up_to}
 use Rattle.tva_node.proofs.role.Routed.change.Goals as goal
 

@@ -1,6 +1,4 @@
-use Rattle.std.proofs.Common.{length, ◌-◌}
-use Rattle.tva_node.specs.Changes.{restart_time}
-use Rattle.tva_node.specs.Making.{IsNextLater, StandsOn}
+use Rattle.tva_node.proofs.Common.{length, ◌-◌, restart_time, IsNextLater, StandsOn}
 use Rattle.tva_node.proofs.role.Routed.change.Given as goal
 
 abbrev pub invariant-loop-now : goal.invariant-loop-now

@@ -1,11 +1,4 @@
-use Rattle.std.proofs.Common.{ℕ, map, sym, subst, ap₂, ◌∙◌}
-use Rattle.std.specs.Prelude.{Contains}
-use Rattle.tva_base.specs.declared.addresses.Prefix.{Prefix}
-use Rattle.tva_base.specs.Changes.{changed_plan}
-use Rattle.tva_base.specs.Plan.{links_of}
-use Rattle.tva_router.specs.Routes.{rerouted}
-use Rattle.tva_node.specs.declared.changes.Changes.{Changes}
-use Rattle.tva_node.specs.Making.{StandsOn}
+use Rattle.tva_node.proofs.Common.{ℕ, map, sym, subst, ap₂, ◌∙◌, Contains, Prefix, changed_plan, links_of, rerouted, Changes, StandsOn}
 use Rattle.tva_node.proofs.Making.{has_prefix, has_way, moves_on, some_move}
 use Rattle.tva_node.proofs.role.Routed.reroute.Goals as goal
 

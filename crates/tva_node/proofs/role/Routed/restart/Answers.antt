@@ -1,7 +1,4 @@
-use Rattle.std.proofs.Common.{ℕ, List, Some, sym, subst}
-use Rattle.tva_base.specs.declared.packet.Time.{Time}
-use Rattle.tva_node.specs.declared.changes.Changes.{Changes}
-use Rattle.tva_node.specs.Making.{IsRestarted, StandsOn}
+use Rattle.tva_node.proofs.Common.{ℕ, List, Some, sym, subst, Time, Changes, IsRestarted, StandsOn}
 use Rattle.tva_node.proofs.Making.{restarts_on}
 use Rattle.tva_node.proofs.role.Routed.restart.Goals as goal
 

@@ -1,10 +1,4 @@
-use Rattle.std.proofs.Common.{◌∙◌, Some, refl, subst}
-use Rattle.tva_base.specs.declared.packet.Time.{Time}
-use Rattle.tva_router.specs.Boots.{charges_of_boot}
-use Rattle.tva_log.specs.declared.kinds.Input.TheVariants.{Arrival}
-use Rattle.tva_log.specs.Parts.{charges, port_logs}
-use Rattle.tva_log.specs.Contents.{arrived}
-use Rattle.tva_node.specs.Steps.{RouterTook}
+use Rattle.tva_node.proofs.Common.{◌∙◌, Some, refl, subst, Time, charges_of_boot, Arrival, charges, port_logs, arrived, RouterTook}
 use Rattle.tva_node.proofs.Roles.{ordinal_arrival, router_takes}
 use Rattle.tva_node.proofs.role.Routed.take_flight.Goals as goal
 

@@ -1,10 +1,5 @@
-use Rattle.std.proofs.Common.{◌≡◌, ◌∙◌, Some, None, sym, subst, ap}
-use Rattle.std.specs.Option.{option_map}
-use Rattle.tva_router.specs.Boots.{charges_of_boot}
-use Rattle.tva_router.specs.Stands.{RouterData, StandsFor}
-use Rattle.tva_log.specs.declared.kinds.Input.TheVariants.{FromTrace}
-use Rattle.tva_log.specs.Parts.{charges, port_logs}
-use Rattle.tva_log.specs.Contents.{arrived, packet_of_row}
+use Rattle.tva_node.proofs.Common.{◌≡◌, ◌∙◌, Some, None, sym, subst, ap, option_map, charges_of_boot, RouterData, FromTrace, charges, port_logs, arrived, packet_of_row}
+use Rattle.tva_router.specs.Stands.{StandsFor}
 use Rattle.tva_node.proofs.Roles.{ordinal_row, router_takes}
 use Rattle.tva_node.proofs.role.Routed.take_row.Goals as goal
 

@@ -1,6 +1,4 @@
-use Rattle.std.proofs.Common.{sym, subst, List}
-use Rattle.std.specs.List.{AllByRecursion}
-use Rattle.tva_node.specs.States.{NodeState, Stands}
+use Rattle.tva_nodes_tests.proofs.Common.{sym, subst, List, AllByRecursion, NodeState, Stands}
 use Rattle.tva_nodes_tests.proofs.Standing.{one_more}
 use Rattle.tva_nodes_tests.proofs.tests.at_once.edges.Goals as goal
 

@@ -1,5 +1,4 @@
-use Rattle.std.specs.List.{AllByRecursion}
-use Rattle.tva_node.specs.States.{Stands}
+use Rattle.tva_nodes_tests.proofs.Common.{AllByRecursion, Stands}
 use Rattle.tva_nodes_tests.proofs.tests.at_once.edges.Given as goal
 
 abbrev pub invariant-loop-number : goal.invariant-loop-number

@@ -1,9 +1,8 @@
-use Rattle.std.proofs.Common.{ℕ, ◌≤◌}
+use Rattle.tva_nodes_tests.proofs.Common.{ℕ, ◌≤◌, FitsRow}
 use Rattle.tva_base.specs.declared.packet.Flow.{Flow}
 use Rattle.tva_plan.specs.declared.config.NodePlan.{NodePlan}
 use Rattle.tva_plan.specs.declared.config.NodePlan.TheVariants.{Router, Host}
 use Rattle.tva_rows.specs.declared.rows.RowWhat.TheVariants.{Inject}
-use Rattle.tva_node.specs.States.{FitsRow}
 use Rattle.tva_shim.specs.Packets.{IsCarried}
 use Rattle.tva_shim.specs.declared.packets.Carried.{Carried}
 use Rattle.tva_nodes_tests.proofs.tests.calls.give_row.Goals as goal

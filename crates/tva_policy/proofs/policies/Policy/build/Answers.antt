@@ -1,9 +1,4 @@
-use Rattle.std.proofs.Common.{None, refl, ap, sym, ◌∙◌}
-use Rattle.std.proofs.lemmas.List.Elements.{All-replicate}
-use Rattle.std.specs.List.{list_any}
-use Rattle.std.specs.Ordering.{is_eq, nat_cmp}
-use Rattle.tva_policy.specs.Grants.{has_address, lets_in}
-use Rattle.tva_policy.specs.Notes.{IsNotedIn, grants_kept}
+use Rattle.tva_policy.proofs.Common.{None, refl, ap, sym, ◌∙◌, All-replicate, list_any, is_eq, nat_cmp, has_address, lets_in, IsNotedIn, grants_kept}
 use Rattle.tva_policy.proofs.Compared.{has_address_by, has_tag_by}
 use Rattle.tva_policy.proofs.policies.Policy.build.Goals as goal
 

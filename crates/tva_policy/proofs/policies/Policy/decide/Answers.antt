@@ -1,6 +1,4 @@
-use Rattle.std.proofs.Common.{sym, subst, ◌∙◌, ap, true, unwrap_or}
-use Rattle.tva_policy.specs.Grants.{has_address, lets_in}
-use Rattle.tva_policy.specs.Notes.{Notes, StandsFor, denies}
+use Rattle.tva_policy.proofs.Common.{sym, subst, ◌∙◌, ap, true, unwrap_or, has_address, lets_in, Notes, StandsFor, denies}
 use Rattle.tva_policy.proofs.Compared.{grants_kept_by, grants_kept-insert}
 use Rattle.tva_policy.proofs.Keeping.{not_let_in, too_often, denied, granted, stands_decided}
 use Rattle.tva_policy.proofs.policies.Policy.decide.Goals as goal

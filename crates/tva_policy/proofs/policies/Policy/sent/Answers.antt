@@ -1,6 +1,4 @@
-use Rattle.std.proofs.Common.{◌%◌, ap, sym, subst}
-use Rattle.tva_policy.specs.Grants.{lets_in}
-use Rattle.tva_policy.specs.Notes.{Notes, StandsFor}
+use Rattle.tva_policy.proofs.Common.{◌%◌, ap, sym, subst, lets_in, Notes, StandsFor}
 use Rattle.tva_policy.proofs.Compared.{has_address-insert}
 use Rattle.tva_policy.proofs.Keeping.{stands_sent, recent_more, again}
 use Rattle.tva_policy.proofs.policies.Policy.sent.Goals as goal

@@ -1,7 +1,4 @@
-use Rattle.std.proofs.Common.{ap, arith}
-use Rattle.tva_drr.specs.Queues.{Fair}
-use Rattle.tva_shim.specs.Packets.{PacketData}
-use Rattle.tva_port.specs.Lists.{LegacyData}
+use Rattle.tva_port.proofs.Common.{ap, arith, Fair, PacketData, LegacyData}
 use Rattle.tva_port.proofs.Steady.{misses_empty}
 use Rattle.tva_port.proofs.hand_port.HandPort.build.Goals as goal
 

@@ -1,21 +1,10 @@
-use Rattle.std.proofs.Common.{◌≡◌, ◌↔◌, ℕ, ◌+◌, ◌*◌, ◌++◌, ap, sym, ◌∙◌, subst, arith}
-use Rattle.tva_shim.specs.Packets.{PacketData, packet_length}
-use Rattle.tva_base.specs.declared.limits.LinkLimits.{LinkLimits}
-use Rattle.tva_base.specs.Plan.{AreLinkLimits}
-use Rattle.tva_port.specs.Legal.{IsLegal}
-use Rattle.tva_port.specs.Waiting.{Waiting, IsEmpty, IsRequestAlone, next_request}
-use Rattle.tva_port.specs.Decide.{NoneDueBefore, started_by}
-use Rattle.tva_port.specs.Stands.{PortData}
-use Rattle.tva_port.specs.Steps.{freed}
-use Rattle.tva_port.specs.Hand.{decision_by}
+use Rattle.tva_port.proofs.Common.{◌≡◌, ◌↔◌, ℕ, ◌+◌, ◌*◌, ◌++◌, ap, sym, ◌∙◌, subst, arith, PacketData, packet_length, LinkLimits, AreLinkLimits, IsLegal, Waiting, IsEmpty, IsRequestAlone, next_request, NoneDueBefore, started_by, PortData, freed, decision_by, Decision, Idle}
 use Rattle.tva_port.proofs.Hands.{rested_leaves, rested_free}
 use Rattle.tva_port.proofs.Standing.{decided, stands_by_decide, paid_less, sound-later}
 use Rattle.tva_port.proofs.Served.{all_served, alike}
 use Rattle.tva_port.proofs.Logs.{later-weaker}
 use Rattle.tva_port.proofs.Resting.{rests, misses, first_covered}
 use Rattle.tva_port.proofs.Idling.{idles, waits_alone}
-use Rattle.tva_port.specs.declared.decision.Decision.{Decision}
-use Rattle.tva_port.specs.declared.decision.Decision.TheVariants.{Idle}
 use Rattle.tva_port.proofs.Steady.{next_sized, steady, ends_later}
 use Rattle.tva_port.proofs.hand_port.HandPort.decide_into.Goals as goal
 

@@ -1,6 +1,4 @@
-use Rattle.std.proofs.Common.{subst}
-use Rattle.tva_base.specs.Plan.{AreLinkLimits}
-use Rattle.tva_port.specs.Stands.{PortData}
+use Rattle.tva_port.proofs.Common.{subst, AreLinkLimits, PortData}
 use Rattle.tva_port.proofs.Legality.{rate_kept, starts_apart}
 use Rattle.tva_port.proofs.Limits.{stays_within}
 use Rattle.tva_port.proofs.hand_port.HandPort.limits.Goals as goal

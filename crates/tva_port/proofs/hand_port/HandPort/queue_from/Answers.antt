@@ -1,13 +1,8 @@
-use Rattle.std.proofs.Common.{◌≡◌, ◌≤◌, ℕ, max, false, sym, ap, ◌∙◌, subst, arith}
-use Rattle.tva_drr.specs.declared.offered.Offered.{Offered}
-use Rattle.tva_shim.specs.Packets.{PacketData}
-use Rattle.tva_port.specs.Waiting.{waiting, is_queued}
-use Rattle.tva_port.specs.Stands.{PortData}
+use Rattle.tva_port.proofs.Common.{◌≡◌, ◌≤◌, ℕ, max, false, sym, ap, ◌∙◌, subst, arith, Offered, PacketData, waiting, is_queued, PortData, answer_by}
 use Rattle.tva_port.proofs.Hands.{by_packet, IsOf, kept, of_queue}
 use Rattle.tva_port.proofs.Standing.{answered, stands_by_queue, refused_leaves, sound-later}
 use Rattle.tva_port.proofs.Logs.{later-weaker}
 use Rattle.tva_port.proofs.Steady.{misses_offered}
-use Rattle.tva_port.specs.Hand.{answer_by}
 use Rattle.tva_port.proofs.hand_port.HandPort.queue_from.Goals as goal
 
 pub returns-clause-answer : goal.returns-clause-answer

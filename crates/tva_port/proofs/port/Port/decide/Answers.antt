@@ -1,12 +1,4 @@
-use Rattle.std.proofs.Common.{◌≡◌, ◌<◌, ◌+◌, ◌*◌, ◌++◌, Some, sym, ap, ◌∙◌, subst, arith}
-use Rattle.tva_base.specs.declared.packet.Class.TheVariants.{Request, Regular}
-use Rattle.tva_shim.specs.Packets.{PacketData, packet_length}
-use Rattle.tva_port.specs.declared.decision.Decision.{Decision}
-use Rattle.tva_port.specs.Bounds.{request_bound, regular_bound, AreServed}
-use Rattle.tva_port.specs.Decide.{started_by, MissesNone, NoneDueBefore, IsFirstCovered}
-use Rattle.tva_port.specs.Hand.{decision_by}
-use Rattle.tva_port.specs.Stands.{PortData, StandsFor}
-use Rattle.tva_port.specs.Waiting.{next_request, IsRequestAlone}
+use Rattle.tva_port.proofs.Common.{◌≡◌, ◌<◌, ◌+◌, ◌*◌, ◌++◌, Some, sym, ap, ◌∙◌, subst, arith, Request, Regular, PacketData, packet_length, Decision, request_bound, regular_bound, AreServed, started_by, MissesNone, NoneDueBefore, IsFirstCovered, decision_by, PortData, StandsFor, next_request, IsRequestAlone}
 use Rattle.tva_port.proofs.Stocked.{hand_decided, has_room, stocked_decided}
 use Rattle.tva_port.proofs.port.Port.decide.Goals as goal
 

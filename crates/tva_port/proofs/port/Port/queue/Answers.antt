@@ -1,10 +1,4 @@
-use Rattle.std.proofs.Common.{◌≡◌, ◌≤◌, max, ◌++◌, sym, ap, ◌∙◌, subst, arith}
-use Rattle.tva_drr.specs.declared.offered.Offered.{Offered}
-use Rattle.tva_shim.specs.Packets.{PacketData}
-use Rattle.tva_port.specs.Decide.{MissesNone}
-use Rattle.tva_port.specs.Hand.{answer_by}
-use Rattle.tva_port.specs.Stands.{PortData, StandsFor}
-use Rattle.tva_port.specs.Waiting.{queued_by}
+use Rattle.tva_port.proofs.Common.{◌≡◌, ◌≤◌, max, ◌++◌, sym, ap, ◌∙◌, subst, arith, Offered, PacketData, MissesNone, answer_by, PortData, StandsFor, queued_by}
 use Rattle.tva_port.proofs.Stocked.{hand_offered, has_hand, stocked_queued}
 use Rattle.tva_port.proofs.port.Port.queue.Goals as goal
 

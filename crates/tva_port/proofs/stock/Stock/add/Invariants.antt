@@ -1,4 +1,4 @@
-use Rattle.std.proofs.Common.{◌≡◌, ◌+◌, length}
+use Rattle.tva_port.proofs.Common.{◌≡◌, ◌+◌, length}
 use Rattle.tva_port.proofs.stock.Stock.add.Given as goal
 
 abbrev pub invariant-loop : goal.invariant-loop

@@ -1,4 +1,4 @@
-use Rattle.std.proofs.Common.{refl}
+use Rattle.tva_report.proofs.Common.{refl}
 use Rattle.tva_report.proofs.Comparing.{are_lines}
 use Rattle.tva_report.proofs.differences.Comparison.each_line.Goals as goal
 

@@ -1,6 +1,4 @@
-use Rattle.std.proofs.Common.{length}
-use Rattle.tva_report.specs.Compared.{AreLines, Leads}
-use Rattle.tva_report.specs.Lines.{report_lines}
+use Rattle.tva_report.proofs.Common.{length, AreLines, Leads, report_lines}
 use Rattle.tva_report.proofs.differences.Comparison.each_line.Given as goal
 
 -- what is ahead in the text is still to be compared

@@ -1,4 +1,4 @@
-use Rattle.std.proofs.Common.{sym, ◌∙◌}
+use Rattle.tva_report.proofs.Common.{sym, ◌∙◌}
 use Rattle.tva_report.proofs.Comparing.{finished}
 use Rattle.tva_report.proofs.differences.Comparison.finish.Goals as goal
 

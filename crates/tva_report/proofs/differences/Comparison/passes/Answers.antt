@@ -1,4 +1,4 @@
-use Rattle.std.proofs.Common.{sym, arith}
+use Rattle.tva_report.proofs.Common.{sym, arith}
 use Rattle.tva_report.proofs.LinesBack.{few_lines}
 use Rattle.tva_report.proofs.Passing.{led_on}
 use Rattle.tva_report.proofs.differences.Comparison.passes.Goals as goal

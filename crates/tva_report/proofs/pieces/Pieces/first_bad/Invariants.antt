@@ -1,5 +1,4 @@
-use Rattle.std.proofs.Common.{◌≡◌, length}
-use Rattle.tva_report.specs.Ahead.{bad_ahead}
+use Rattle.tva_report.proofs.Common.{◌≡◌, length, bad_ahead}
 use Rattle.tva_report.proofs.pieces.Pieces.first_bad.Given as goal
 
 -- no piece before those that are ahead was bad

@@ -1,5 +1,4 @@
-use Rattle.std.proofs.Common.{◌≤◌, length, take, sym, refl, arith}
-use Rattle.std.proofs.lemmas.Bool.{eqb-false}
+use Rattle.tva_report.proofs.Common.{◌≤◌, length, take, sym, refl, arith, eqb-false}
 use Rattle.tva_report.proofs.Cuts.{cut_at_first, none_without_feed, pieces_cut, pieces_last, bytes_cut, bytes_last, some_ended, any_feed-ended, without_feed-ended, without_feed-unended}
 use Rattle.tva_report.proofs.pieces.Pieces.next.Goals as goal
 

@@ -1,6 +1,5 @@
-use Rattle.std.proofs.Common.{◌≡◌, ℕ, List, ◌++◌, drop, length, sym, refl, ap, ◌∙◌}
+use Rattle.tva_report.proofs.Common.{◌≡◌, ℕ, List, ◌++◌, drop, length, sym, refl, ap, ◌∙◌, starts_is}
 use Rattle.std.proofs.lemmas.Bool.Decides.{Decides-eqb}
-use Rattle.std.proofs.lemmas.Slice.Eq.{starts_is}
 use Rattle.tva_report.proofs.Cuts.{slice_from}
 use Rattle.tva_report.proofs.pieces.Pieces.pass.Goals as goal
 

@@ -1,6 +1,4 @@
-use Rattle.std.proofs.Common.{ℕ, sym, ◌∙◌, subst, arith}
-use Rattle.tva_caps.specs.Known.{is_good}
-use Rattle.tva_flow.specs.Budget.{IsWithinSeconds}
+use Rattle.tva_router.proofs.Common.{ℕ, sym, ◌∙◌, subst, arith, is_good, IsWithinSeconds}
 use Rattle.tva_router.proofs.Answers.{keeps-verdict}
 use Rattle.tva_router.proofs.guard.Guard.answer_to_checked.Goals as goal
 

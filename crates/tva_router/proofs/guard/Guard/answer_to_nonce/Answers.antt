@@ -1,5 +1,4 @@
-use Rattle.std.proofs.Common.{◌∙◌, arith}
-use Rattle.tva_caps.specs.Known.{is_good}
+use Rattle.tva_router.proofs.Common.{◌∙◌, arith, is_good}
 use Rattle.tva_router.proofs.Answers.{keeps-verdict}
 use Rattle.tva_router.proofs.guard.Guard.answer_to_nonce.Goals as goal
 

@@ -1,6 +1,4 @@
-use Rattle.std.proofs.Common.{◌≡◌, ℕ, true, List, sym, subst}
-use Rattle.tva_caps.specs.Check.{IfValid}
-use Rattle.tva_caps.specs.Known.{is_good, IsGoodOrNone}
+use Rattle.tva_router.proofs.Common.{◌≡◌, ℕ, true, List, sym, subst, IfValid, is_good, IsGoodOrNone}
 use Rattle.tva_router.proofs.Answers.{known_good}
 use Rattle.tva_router.proofs.guard.Guard.answer_to_shown.Goals as goal
 

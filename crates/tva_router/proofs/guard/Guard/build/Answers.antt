@@ -1,11 +1,5 @@
-use Rattle.std.proofs.Common.{◌≡◌, ℕ, true, List, sym, ap, ◌∙◌, subst, arith}
-use Rattle.std.proofs.lemmas.List.Elements.{All-nil}
-use Rattle.tva_caps.specs.Minting.{MinterState}
-use Rattle.tva_caps.specs.Known.{is_good}
+use Rattle.tva_router.proofs.Common.{◌≡◌, ℕ, true, List, sym, ap, ◌∙◌, subst, arith, All-nil, MinterState, is_good, AreShown, Cache, ArePlaces}
 use Rattle.tva_flow.specs.declared.kept.Entry.{Entry}
-use Rattle.tva_flow.specs.Places.{AreShown}
-use Rattle.tva_flow.specs.Stands.{Cache}
-use Rattle.tva_router.specs.Tables.{ArePlaces}
 use Rattle.tva_router.proofs.guard.Guard.build.Goals as goal
 
 pub returns-clause-guard : goal.returns-clause-guard

@@ -1,6 +1,4 @@
-use Rattle.std.proofs.Common.{◌≡◌, ◌≤◌, ◌++◌, sym, subst}
-use Rattle.tva_router.specs.Handling.{handle, kept_after}
-use Rattle.tva_router.specs.Stands.{RouterData, router_data, StandsFor, ◌with◌}
+use Rattle.tva_router.proofs.Common.{◌≡◌, ◌≤◌, ◌++◌, sym, subst, handle, kept_after, RouterData, router_data, StandsFor, ◌with◌}
 use Rattle.tva_router.proofs.Handled.{stands-uncharged}
 use Rattle.tva_router.proofs.Known.{known, missed_handled}
 use Rattle.tva_router.proofs.hand_router.HandRouter.arrive_from.Goals as goal

@@ -1,14 +1,4 @@
-use Rattle.std.proofs.Common.{◌≡◌, ℕ, List, [], sym, ap, ◌∙◌, subst}
-use Rattle.std.proofs.lemmas.List.Elements.{All-nil}
-use Rattle.tva_base.specs.Plan.{IsRouterPlan}
-use Rattle.tva_base.specs.declared.limits.LinkLimits.{LinkLimits}
-use Rattle.tva_base.specs.declared.plan.RouterPlan.{RouterPlan}
-use Rattle.tva_flow.specs.Charges.{Charge}
-use Rattle.tva_flow.specs.Budget.{IsWithinSeconds}
-use Rattle.tva_port.proofs.Steady.{misses_empty}
-use Rattle.tva_router.specs.Stands.{StandForLogs}
-use Rattle.tva_router.specs.Steps.{ArePorts, IsGuard}
-use Rattle.tva_router.specs.Tables.{AreWays}
+use Rattle.tva_router.proofs.Common.{◌≡◌, ℕ, List, [], sym, ap, ◌∙◌, subst, All-nil, IsRouterPlan, LinkLimits, RouterPlan, Charge, IsWithinSeconds, misses_empty, StandForLogs, ArePorts, IsGuard, AreWays}
 use Rattle.tva_router.proofs.Handled.{by-plan}
 use Rattle.tva_router.proofs.Changed.{force_same}
 use Rattle.tva_router.proofs.hand_router.HandRouter.build.Goals as goal

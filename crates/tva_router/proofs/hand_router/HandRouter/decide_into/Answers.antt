@@ -1,15 +1,6 @@
-use Rattle.std.proofs.Common.{◌≡◌, ◌≤◌, ◌++◌, Some, sym, ap, ◌∙◌, subst}
-use Rattle.tva_base.specs.declared.plan.RouterPlan.{RouterPlan}
-use Rattle.tva_port.specs.declared.decision.Decision.{Decision}
-use Rattle.tva_port.specs.Log.{free_after}
-use Rattle.tva_port.specs.Decide.{started_by}
-use Rattle.tva_port.proofs.Logs.{free-started}
+use Rattle.tva_router.proofs.Common.{◌≡◌, ◌≤◌, ◌++◌, Some, sym, ap, ◌∙◌, subst, RouterPlan, Decision, free_after, started_by, free-started, next_sized, ends_later, steady, rests_after, misses_after, outgoing_link, RouterData, router_data, StandsFor, StandForLogs, decision_by}
 use Rattle.tva_port.proofs.Resting.{first_covered}
 use Rattle.tva_port.proofs.Idling.{idles, waits_alone}
-use Rattle.tva_port.proofs.Steady.{next_sized, ends_later, steady, rests_after, misses_after}
-use Rattle.tva_router.specs.Handling.{outgoing_link}
-use Rattle.tva_router.specs.Stands.{RouterData, router_data, StandsFor, StandForLogs}
-use Rattle.tva_port.specs.Hand.{decision_by}
 use Rattle.tva_router.proofs.Ports.{ports-later}
 use Rattle.tva_router.proofs.Answers.{guard-later}
 use Rattle.tva_router.proofs.Handled.{by-plan}

@@ -1,6 +1,4 @@
-use Rattle.std.proofs.Common.{◌≡◌, Some, sym, ◌∙◌, subst}
-use Rattle.tva_router.specs.Handling.{outgoing_link}
-use Rattle.tva_router.specs.Stands.{RouterData, router_data, StandsFor}
+use Rattle.tva_router.proofs.Common.{◌≡◌, Some, sym, ◌∙◌, subst, outgoing_link, RouterData, router_data, StandsFor}
 use Rattle.tva_router.proofs.Known.{free_is}
 use Rattle.tva_router.proofs.hand_router.HandRouter.free_at.Goals as goal
 

@@ -1,10 +1,4 @@
-use Rattle.std.proofs.Common.{◌≤◌, List, sym, subst}
-use Rattle.std.specs.Prelude.{Contains}
-use Rattle.tva_base.specs.Changes.{changed_plan}
-use Rattle.tva_base.specs.Plan.{links_of}
-use Rattle.tva_base.specs.declared.plan.Route.{Route}
-use Rattle.tva_router.specs.Stands.{RouterData, StandsFor}
-use Rattle.tva_router.specs.Steps.{IsSound}
+use Rattle.tva_router.proofs.Common.{◌≤◌, List, sym, subst, Contains, changed_plan, links_of, Route, RouterData, StandsFor, IsSound}
 use Rattle.tva_router.proofs.Changed.{rerouted_sound, rerouted_stands}
 use Rattle.tva_router.proofs.hand_router.HandRouter.reroute.Goals as goal
 

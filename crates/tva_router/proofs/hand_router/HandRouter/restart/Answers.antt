@@ -1,5 +1,4 @@
-use Rattle.std.proofs.Common.{◌≤◌, sym, subst}
-use Rattle.tva_router.specs.Stands.{RouterData, StandsFor}
+use Rattle.tva_router.proofs.Common.{◌≤◌, sym, subst, RouterData, StandsFor}
 use Rattle.tva_router.proofs.Changed.{restarted_sound, restarted_stands}
 use Rattle.tva_router.proofs.hand_router.HandRouter.restart.Goals as goal
 

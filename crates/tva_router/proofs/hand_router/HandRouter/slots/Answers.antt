@@ -1,6 +1,4 @@
-use Rattle.std.proofs.Common.{◌≤◌, ℕ, sym, subst, arith}
-use Rattle.tva_flow.specs.Charges.{living_count}
-use Rattle.tva_router.specs.Stands.{RouterData, router_data, StandsFor}
+use Rattle.tva_router.proofs.Common.{◌≤◌, ℕ, sym, subst, arith, living_count, RouterData, router_data, StandsFor}
 use Rattle.tva_router.proofs.hand_router.HandRouter.slots.Goals as goal
 
 pub returns-clause-living : goal.returns-clause-living

@@ -1,8 +1,4 @@
-use Rattle.std.proofs.Common.{◌≡◌, ◌≤◌, Some, sym, ap, ◌∙◌, subst, arith}
-use Rattle.tva_base.specs.declared.packet.Fate.{Fate}
-use Rattle.tva_port.specs.Decide.{MissesNone}
-use Rattle.tva_router.specs.Handling.{outgoing_link, handle, kept_after}
-use Rattle.tva_router.specs.Stands.{RouterData, StandsFor, ◌with◌}
+use Rattle.tva_router.proofs.Common.{◌≡◌, ◌≤◌, Some, sym, ap, ◌∙◌, subst, arith, Fate, MissesNone, outgoing_link, handle, kept_after, RouterData, StandsFor, ◌with◌}
 use Rattle.tva_router.proofs.Stocked.{has_hand, stocked_arrived}
 use Rattle.tva_router.proofs.router.Router.arrive.Goals as goal
 

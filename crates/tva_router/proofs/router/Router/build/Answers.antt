@@ -1,7 +1,4 @@
-use Rattle.std.proofs.Common.{◌≡◌, ℕ, List, [], sym, ap, ◌∙◌, arith}
-use Rattle.tva_base.specs.declared.limits.LinkLimits.{LinkLimits}
-use Rattle.tva_base.specs.declared.plan.RouterPlan.{RouterPlan}
-use Rattle.tva_router.specs.Stocked.{places_on}
+use Rattle.tva_router.proofs.Common.{◌≡◌, ℕ, List, [], sym, ap, ◌∙◌, arith, LinkLimits, RouterPlan, places_on}
 use Rattle.tva_router.proofs.Stocked.{waits_nothing}
 use Rattle.tva_router.proofs.router.Router.build.Goals as goal
 

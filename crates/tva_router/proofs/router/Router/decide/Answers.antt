@@ -1,13 +1,5 @@
-use Rattle.std.proofs.Common.{◌≡◌, ◌≢◌, ◌+◌, ◌*◌, ◌++◌, ◌↔◌, Some, None, sym, ap, ◌∙◌, subst, arith}
-use Rattle.tva_shim.specs.Packets.{PacketData, packet_length}
-use Rattle.tva_port.specs.declared.decision.Decision.{Decision}
+use Rattle.tva_router.proofs.Common.{◌≡◌, ◌≢◌, ◌+◌, ◌*◌, ◌++◌, ◌↔◌, Some, None, sym, ap, ◌∙◌, subst, arith, PacketData, packet_length, Decision, started_by, NoneDueBefore, RestsAt, IsFirstCovered, decision_by, waiting_after, IsEmpty, IsRequestAlone, hand_decided, outgoing_link, RouterData, StandsFor, free_of, started_on, ◌with◌}
 use Rattle.tva_port.specs.declared.decision.Decision.TheVariants.{Idle}
-use Rattle.tva_port.specs.Decide.{started_by, NoneDueBefore, RestsAt, IsFirstCovered}
-use Rattle.tva_port.specs.Hand.{decision_by}
-use Rattle.tva_port.specs.Waiting.{waiting_after, IsEmpty, IsRequestAlone}
-use Rattle.tva_port.proofs.Stocked.{hand_decided}
-use Rattle.tva_router.specs.Handling.{outgoing_link}
-use Rattle.tva_router.specs.Stands.{RouterData, StandsFor, free_of, started_on, ◌with◌}
 use Rattle.tva_router.proofs.Stocked.{has_room, stocked_decided}
 use Rattle.tva_router.proofs.router.Router.decide.Goals as goal
 

@@ -1,6 +1,4 @@
-use Rattle.std.proofs.Common.{ap, subst}
-use Rattle.tva_base.specs.declared.plan.RouterPlan.{RouterPlan}
-use Rattle.tva_router.specs.Stands.{RouterData, StandsFor}
+use Rattle.tva_router.proofs.Common.{ap, subst, RouterPlan, RouterData, StandsFor}
 use Rattle.tva_router.proofs.Stocked.{stocked_same}
 use Rattle.tva_router.proofs.router.Router.reroute.Goals as goal
 

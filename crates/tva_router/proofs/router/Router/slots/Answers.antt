@@ -1,6 +1,4 @@
-use Rattle.std.proofs.Common.{◌≤◌, subst}
-use Rattle.tva_flow.specs.Charges.{living_count}
-use Rattle.tva_router.specs.Stands.{RouterData, StandsFor}
+use Rattle.tva_router.proofs.Common.{◌≤◌, subst, living_count, RouterData, StandsFor}
 use Rattle.tva_router.proofs.router.Router.slots.Goals as goal
 
 pub returns-clause-living : goal.returns-clause-living

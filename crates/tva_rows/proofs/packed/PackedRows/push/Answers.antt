@@ -1,6 +1,4 @@
-use Rattle.std.proofs.Common.{◌∙◌, ap}
-use Rattle.std.proofs.lemmas.Result.{err_from_is_err_and}
-use Rattle.tva_rows.specs.Brief.{rows_in}
+use Rattle.tva_rows.proofs.Common.{◌∙◌, ap, err_from_is_err_and, rows_in}
 use Rattle.tva_rows.proofs.Packing.{grown_same, pushed_held, pushed_same}
 use Rattle.tva_rows.proofs.packed.PackedRows.push.Goals as goal
 

@@ -1,7 +1,5 @@
-use Rattle.std.proofs.Common.{◌∙◌, ap}
+use Rattle.tva_rows.proofs.Common.{◌∙◌, ap, err_from_is_err_and, rows_in, what_in}
 use Rattle.std.specs.Prelude.{refl}
-use Rattle.std.proofs.lemmas.Result.{err_from_is_err_and}
-use Rattle.tva_rows.specs.Brief.{rows_in, what_in}
 use Rattle.tva_rows.proofs.Packing.{grown_same, pushed_held, pushed_same}
 use Rattle.tva_rows.proofs.packed.PackedRows.push_raw.Goals as goal
 

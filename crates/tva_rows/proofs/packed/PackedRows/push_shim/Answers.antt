@@ -1,9 +1,6 @@
-use Rattle.std.proofs.Common.{◌∙◌, List, ap, subst, sym}
-use Rattle.std.proofs.lemmas.Result.{err_from_is_err_and}
+use Rattle.tva_rows.proofs.Common.{◌∙◌, List, ap, subst, sym, err_from_is_err_and, BriefRow, AreHeld, rows_in}
 use Rattle.tva_shim.specs.declared.packets.Carried.TheVariants as carried
-use Rattle.tva_rows.specs.declared.brief.BriefRow.{BriefRow}
 use Rattle.tva_rows.specs.declared.rows.RowWhat.TheVariants as asks
-use Rattle.tva_rows.specs.Brief.{AreHeld, rows_in}
 use Rattle.tva_rows.proofs.Packing.{grown_hold, grown_same, pushed_held, pushed_same}
 use Rattle.tva_rows.proofs.packed.PackedRows.push_shim.Goals as goal
 

@@ -1,4 +1,4 @@
-use Rattle.std.proofs.Common.{◌*◌, ◌≤◌, arith}
+use Rattle.tva_sender.proofs.Common.{◌*◌, ◌≤◌, arith}
 use Rattle.tva_sender.proofs.Bounds.{le-mul_some, credit_small, life_near}
 use Rattle.tva_sender.proofs.grant.Grant.charge.Goals as goal
 

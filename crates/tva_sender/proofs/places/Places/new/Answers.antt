@@ -1,6 +1,4 @@
-use Rattle.std.proofs.Common.{rules, None}
-use Rattle.std.proofs.lemmas.List.Elements.{All-replicate}
-use Rattle.tva_sender.specs.Tree.{IsRecent, addresses_of}
+use Rattle.tva_sender.proofs.Common.{rules, None, All-replicate, IsRecent, addresses_of}
 use Rattle.tva_sender.proofs.places.Places.new.Goals as goal
 
 pub invariant_of-result : goal.invariant_of-result

@@ -1,5 +1,4 @@
-use Rattle.std.proofs.Common.{[], ◌∷◌, get_or}
-use Rattle.tva_sender.specs.Tree.{addresses_of}
+use Rattle.tva_sender.proofs.Common.{[], ◌∷◌, get_or, addresses_of}
 use Rattle.tva_sender.proofs.Recent.{recent-more}
 use Rattle.tva_sender.proofs.places.Places.push.Goals as goal
 

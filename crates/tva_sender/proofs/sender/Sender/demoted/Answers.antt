@@ -1,8 +1,4 @@
-use Rattle.std.proofs.Common.{◌≡◌, refl, sym, subst, ap, ◌∙◌, ◌∷◌, [], ◌++◌, Option, None, arith}
-use Rattle.std.proofs.Math.Nat.{le_refl}
-use Rattle.tva_sender.specs.declared.peer.Peer.{Peer}
-use Rattle.tva_sender.specs.Contacts.{Notice}
-use Rattle.tva_sender.specs.Book.{Book, StandsFor, of_peer, peer_at, IsKept, knows}
+use Rattle.tva_sender.proofs.Common.{◌≡◌, refl, sym, subst, ap, ◌∙◌, ◌∷◌, [], ◌++◌, Option, None, arith, le_refl, Peer, Notice, Book, StandsFor, of_peer, peer_at, IsKept, knows}
 use Rattle.tva_sender.proofs.Keeping.{keeps_noticed, strange_noticed}
 use Rattle.tva_sender.proofs.Placed.{found_at, no_place, within_place, near-found}
 use Rattle.tva_sender.proofs.Standing.{same_rules, stands_more, stands_at, strange_at, near_after}

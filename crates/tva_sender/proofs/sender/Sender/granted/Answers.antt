@@ -1,8 +1,4 @@
-use Rattle.std.proofs.Common.{◌≡◌, Bool, ◌&&◌, refl, sym, subst, ap, ◌∙◌, None, Option, arith}
-use Rattle.std.proofs.Math.Nat.{le_refl}
-use Rattle.tva_sender.specs.declared.peer.Peer.{Peer}
-use Rattle.tva_sender.specs.Contacts.{is_within, takes}
-use Rattle.tva_sender.specs.Book.{Book, StandsFor, Keeps, IsKept, of_peer, peer_at, knows}
+use Rattle.tva_sender.proofs.Common.{◌≡◌, Bool, ◌&&◌, refl, sym, subst, ap, ◌∙◌, None, Option, arith, le_refl, Peer, is_within, takes, Book, StandsFor, Keeps, IsKept, of_peer, peer_at, knows}
 use Rattle.tva_sender.proofs.Placed.{found_at, no_place, within_place, near-found}
 use Rattle.tva_sender.proofs.Standing.{same_rules, stands_taken, strange_at, near_after}
 use Rattle.tva_sender.proofs.sender.Sender.granted.Goals as goal

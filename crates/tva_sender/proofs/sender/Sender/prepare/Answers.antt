@@ -1,16 +1,6 @@
-use Rattle.std.proofs.Common.{◌≡◌, ◌≤◌, ◌-◌, ℕ, ◌||◌, cond, eqb, length, refl, sym, subst, ap, ◌∙◌, List, ◌∷◌, [], ◌++◌, Option, None, false, arith}
-use Rattle.std.specs.Prelude.{is_some, nat_eq, IfSome}
-use Rattle.std.proofs.Math.Nat.{le_refl}
-use Rattle.std.proofs.lemmas.List.{length_push}
-use Rattle.std.specs.Map.{lookup}
-use Rattle.tva_base.specs.declared.addresses.Address.{Address}
-use Rattle.tva_sender.specs.declared.peer.Peer.{Peer}
+use Rattle.tva_sender.proofs.Common.{◌≡◌, ◌≤◌, ◌-◌, ℕ, ◌||◌, cond, eqb, length, refl, sym, subst, ap, ◌∙◌, List, ◌∷◌, [], ◌++◌, Option, None, false, arith, is_some, nat_eq, le_refl, length_push, lookup, Address, Peer, Prepared, shape_of, length_of, request_length, Book, StandsFor, of_peer, peer_at, Keeps, IsKept, knows, Known, IsShowable, AreShowable}
+use Rattle.std.specs.Prelude.{IfSome}
 use Rattle.tva_sender.specs.declared.shape.Shape.TheVariants as shape
-use Rattle.tva_sender.specs.Contacts.{Prepared}
-use Rattle.tva_sender.specs.Shapes.{shape_of, length_of, request_length}
-use Rattle.tva_sender.specs.Book.{Book, StandsFor, of_peer, peer_at, Keeps, IsKept, knows}
-use Rattle.tva_sender.specs.Places.{Known}
-use Rattle.tva_sender.specs.Showable.{IsShowable, AreShowable}
 use Rattle.tva_sender.proofs.Placed.{addresses, found_at, at_place, no_place, new_place, within_place, known-found, known-push, all-later, near-found}
 use Rattle.tva_sender.proofs.Showing.{IsShowableGrant, showable_peer, showable_grant, showable_shape}
 use Rattle.tva_sender.proofs.Keeping.{keeps_prepared, keeps_first}

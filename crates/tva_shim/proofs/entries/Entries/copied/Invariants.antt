@@ -1,4 +1,4 @@
-use Rattle.std.proofs.Common.{◌≡◌, take}
+use Rattle.tva_shim.proofs.Common.{◌≡◌, take}
 use Rattle.tva_shim.proofs.entries.Entries.copied.Given as goal
 
 -- the copy has the entries that were passed

@@ -1,4 +1,4 @@
-use Rattle.std.proofs.Common.{◌∙◌}
+use Rattle.tva_shim.proofs.Common.{◌∙◌}
 use Rattle.tva_shim.proofs.Paired.{as_many}
 use Rattle.tva_shim.proofs.entries.Entries.len.Goals as goal
 

@@ -1,4 +1,4 @@
-use Rattle.std.proofs.Common.{arith, refl}
+use Rattle.tva_shim.proofs.Common.{arith, refl}
 use Rattle.tva_shim.proofs.Paired.{all_listed, as_many, few_listed, paired_step}
 use Rattle.tva_shim.proofs.entries.Entries.listed.Goals as goal
 

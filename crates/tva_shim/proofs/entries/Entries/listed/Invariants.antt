@@ -1,5 +1,4 @@
-use Rattle.std.proofs.Common.{◌≡◌, take}
-use Rattle.tva_shim.specs.Paired.{paired}
+use Rattle.tva_shim.proofs.Common.{◌≡◌, take, paired}
 use Rattle.tva_shim.proofs.entries.Entries.listed.Given as goal
 
 -- the list has the entries so far

@@ -1,4 +1,4 @@
-use Rattle.std.proofs.Common.{arith}
+use Rattle.tva_shim.proofs.Common.{arith}
 use Rattle.tva_shim.proofs.Paired.{as_many, entries_more, paired_more}
 use Rattle.tva_shim.proofs.entries.Entries.push.Goals as goal
 

@@ -1,4 +1,4 @@
-use Rattle.std.proofs.Common.{◌∙◌}
+use Rattle.tva_shim.proofs.Common.{◌∙◌}
 use Rattle.tva_shim.proofs.Paired.{tags_paired}
 use Rattle.tva_shim.proofs.entries.Entries.tags.Goals as goal
 

@@ -1,11 +1,4 @@
-use Rattle.std.proofs.Common.{◌≡◌, ℕ, ◌<◌, ◌≤◌, eqb, ltb, true, false, Some, length, set, sym, subst, ◌∙◌, refl, arith}
-use Rattle.std.specs.List.{slice_get}
-use Rattle.std.proofs.lemmas.Bool.{and_parts, ltb-true}
-use Rattle.std.proofs.lemmas.Option.{slice_get_read}
-use Rattle.tva_base.specs.declared.addresses.Address.{Address}
-use Rattle.tva_transfer.specs.declared.transfers.Transfer.{Transfer}
-use Rattle.tva_transfer.specs.Files.{acknowledged, is_more}
-use Rattle.tva_transfer.specs.Stands.{CourierData, Knows}
+use Rattle.tva_transfer.proofs.Common.{◌≡◌, ℕ, ◌<◌, ◌≤◌, eqb, ltb, true, false, Some, length, set, sym, subst, ◌∙◌, refl, arith, slice_get, and_parts, ltb-true, slice_get_read, Address, Transfer, acknowledged, is_more, CourierData, Knows}
 use Rattle.tva_transfer.proofs.Compared.{has_key-changed}
 use Rattle.tva_transfer.proofs.Due.{sound_acked, sound_done}
 use Rattle.tva_transfer.proofs.Knowing.{acknowledged-less, acknowledged-more, acknowledged-none, knows_acked}

@@ -1,7 +1,4 @@
-use Rattle.std.proofs.Common.{sym, ap, ◌∙◌, refl}
-use Rattle.std.specs.Option.{unwrap_or}
-use Rattle.tva_base.specs.declared.packet.Upper.TheVariants.{Ack}
-use Rattle.tva_transfer.specs.Files.{answer_to}
+use Rattle.tva_transfer.proofs.Common.{sym, ap, ◌∙◌, refl, unwrap_or, Ack, answer_to}
 use Rattle.tva_transfer.proofs.Knowing.{answer_to-data, behind}
 use Rattle.tva_transfer.proofs.courier.Courier.answer_to.Goals as goal
 

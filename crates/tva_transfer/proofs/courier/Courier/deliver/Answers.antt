@@ -1,8 +1,4 @@
-use Rattle.std.proofs.Common.{◌≡◌, ℕ, ◌&&◌, eqb, cond, Some, sym, ap, subst, ◌∙◌, refl}
-use Rattle.std.specs.Map.{lookup}
-use Rattle.std.specs.Option.{IsSome, unwrap_or}
-use Rattle.tva_base.specs.declared.addresses.Address.{Address}
-use Rattle.tva_transfer.specs.Stands.{CourierData, Knows, next_kept}
+use Rattle.tva_transfer.proofs.Common.{◌≡◌, ℕ, ◌&&◌, eqb, cond, Some, sym, ap, subst, ◌∙◌, refl, lookup, IsSome, unwrap_or, Address, CourierData, Knows, next_kept}
 use Rattle.tva_transfer.proofs.Compared.{lookup_by, next_kept-written}
 use Rattle.tva_transfer.proofs.Knowing.{behind, knows_delivered, next_kept-still}
 use Rattle.tva_transfer.proofs.courier.Courier.deliver.Goals as goal

@@ -1,10 +1,5 @@
-use Rattle.std.proofs.Common.{◌≡◌, ℕ, ◌∷◌, [], ◌++◌, eqb, ◌&&◌, cond, true, false, length, sym, subst, ap, ◌∙◌, refl}
-use Rattle.tva_base.specs.declared.addresses.Address.{Address}
-use Rattle.tva_base.specs.declared.packet.Upper.{Upper}
+use Rattle.tva_transfer.proofs.Common.{◌≡◌, ℕ, ◌∷◌, [], ◌++◌, eqb, ◌&&◌, cond, true, false, length, sym, subst, ap, ◌∙◌, refl, Address, Upper, Filed, begun, first_segment, CourierData, StandsFor, call_with, courier_data, known, has_key}
 use Rattle.tva_host.specs.Stands as host
-use Rattle.tva_transfer.specs.Files.{Filed, begun, first_segment}
-use Rattle.tva_transfer.specs.Stands.{CourierData, StandsFor, call_with, courier_data, known}
-use Rattle.tva_transfer.specs.Sound.{has_key}
 use Rattle.tva_transfer.proofs.Compared.{has_key-changed}
 use Rattle.tva_transfer.proofs.Due.{sound_filed, sound_undone}
 use Rattle.tva_transfer.proofs.Standing.{stands_act, knows_filed}

@@ -1,4 +1,4 @@
-use Rattle.tva_transfer.specs.Files.{after_upper}
+use Rattle.tva_transfer.proofs.Common.{after_upper}
 use Rattle.tva_transfer.proofs.courier.Courier.keep.Goals as goal
 
 pub returns-in-Nothing-clause-knows : goal.returns-in-Nothing-clause-knows

@@ -1,8 +1,4 @@
-use Rattle.std.proofs.Common.{◌≡◌, ℕ, ◌&&◌, eqb, Some, sym, subst, ap, ◌∙◌}
-use Rattle.std.specs.Map.{lookup}
-use Rattle.std.specs.Option.{unwrap_or}
-use Rattle.tva_base.specs.declared.addresses.Address.{Address}
-use Rattle.tva_transfer.specs.Stands.{CourierData, Knows, next_kept}
+use Rattle.tva_transfer.proofs.Common.{◌≡◌, ℕ, ◌&&◌, eqb, Some, sym, subst, ap, ◌∙◌, lookup, unwrap_or, Address, CourierData, Knows, next_kept}
 use Rattle.tva_transfer.proofs.Compared.{next_kept-written, next_kept_by, lookup_by}
 use Rattle.tva_transfer.proofs.Knowing.{knows_same, next_kept-still}
 use Rattle.tva_transfer.proofs.courier.Courier.next_of.Goals as goal

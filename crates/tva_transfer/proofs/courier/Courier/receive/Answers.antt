@@ -1,11 +1,6 @@
-use Rattle.std.proofs.Common.{◌≡◌, List, ◌∷◌, [], ◌++◌, sym, subst, ap, ◌∙◌}
-use Rattle.tva_base.specs.declared.packet.Upper.{Upper}
-use Rattle.tva_host.specs.Calls.{Call, Received, history_of}
+use Rattle.tva_transfer.proofs.Common.{◌≡◌, List, ◌∷◌, [], ◌++◌, sym, subst, ap, ◌∙◌, Upper, Call, Received, history_of, PacketData, Act, Came, after_upper, answer_to, answered, range_of, CourierData, Knows, StandsFor, courier_data, known}
 use Rattle.tva_host.specs.Stands as host
 use Rattle.tva_host.specs.Receiving.{receipt_of}
-use Rattle.tva_shim.specs.Packets.{PacketData}
-use Rattle.tva_transfer.specs.Files.{Act, Came, after_upper, answer_to, answered, range_of}
-use Rattle.tva_transfer.specs.Stands.{CourierData, Knows, StandsFor, courier_data, known}
 use Rattle.tva_transfer.proofs.Standing.{knows_at, on_err, stands_again, stands_act, stands_refused}
 use Rattle.tva_transfer.proofs.courier.Courier.receive.Goals as goal
 

@@ -1,10 +1,4 @@
-use Rattle.std.proofs.Common.{◌≡◌, ℕ, ◌&&◌, ltb, true, false, Some, sym, ap, ◌∙◌, List, length, get_or, refl, arith}
-use Rattle.std.specs.List.{slice_get}
-use Rattle.std.proofs.lemmas.Bool.{ltb-false, ltb-true, lt-ltb, le-ltb}
-use Rattle.std.proofs.lemmas.Option.{slice_get_read}
-use Rattle.tva_transfer.specs.declared.transfers.Transfer.{Transfer}
-use Rattle.tva_transfer.specs.Files.{is_more, segment_of}
-use Rattle.tva_transfer.specs.Stands.{CourierData}
+use Rattle.tva_transfer.proofs.Common.{◌≡◌, ℕ, ◌&&◌, ltb, true, false, Some, sym, ap, ◌∙◌, List, length, get_or, refl, arith, slice_get, ltb-false, ltb-true, lt-ltb, le-ltb, slice_get_read, Transfer, is_more, segment_of, CourierData}
 use Rattle.tva_transfer.proofs.Knowing.{answer_to-past, answer_to-less, answer_to-more}
 use Rattle.tva_transfer.proofs.courier.Courier.segment_behind.Goals as goal
 use Rattle.tva_transfer.proofs.courier.Courier.segment_behind.Goals.{then-not-is_more-via-then-not-is_more, then-not-is_more-via-else-not-is_more+then-next-sent}

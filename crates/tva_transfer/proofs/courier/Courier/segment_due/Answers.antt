@@ -1,10 +1,4 @@
-use Rattle.std.proofs.Common.{◌≡◌, ℕ, ◌<◌, List, length, true, false, Some, sym, subst, ap, ◌∙◌, refl, arith}
-use Rattle.std.specs.List.{slice_get}
-use Rattle.std.proofs.lemmas.Bool.{false_from_ne_true}
-use Rattle.std.proofs.lemmas.Option.{slice_get_read}
-use Rattle.tva_transfer.specs.declared.transfers.Transfer.{Transfer}
-use Rattle.tva_transfer.specs.Stands.{CourierData}
-use Rattle.tva_transfer.specs.Sound.{is_due_at}
+use Rattle.tva_transfer.proofs.Common.{◌≡◌, ℕ, ◌<◌, List, length, true, false, Some, sym, subst, ap, ◌∙◌, refl, arith, slice_get, false_from_ne_true, slice_get_read, Transfer, CourierData, is_due_at}
 use Rattle.tva_transfer.proofs.Due.{due_within, segment_due-first, segment_due-none}
 use Rattle.tva_transfer.proofs.courier.Courier.segment_due.Goals as goal
 

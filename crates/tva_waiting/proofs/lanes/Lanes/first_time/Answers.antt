@@ -1,7 +1,4 @@
-use Rattle.std.proofs.Common.{rules, ◌<◌, ◌-◌, length, map, get_or, sym, ◌∙◌, ap}
-use Rattle.tva_waiting.specs.Inputs.{arrived, first_time}
-use Rattle.tva_waiting.specs.Queues.{no_queue}
-use Rattle.tva_waiting.specs.Lanes.{queues_in}
+use Rattle.tva_waiting.proofs.Common.{rules, ◌<◌, ◌-◌, length, map, get_or, sym, ◌∙◌, ap, arrived, first_time, no_queue, queues_in}
 use Rattle.tva_waiting.proofs.Held.{next_is, queue_at_lane}
 use Rattle.tva_waiting.proofs.lanes.Lanes.first_time.Goals as goal
 

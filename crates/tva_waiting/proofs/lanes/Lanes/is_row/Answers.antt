@@ -1,5 +1,4 @@
-use Rattle.std.proofs.Common.{rules, ◌∙◌}
-use Rattle.std.proofs.lemmas.Bool.{ne_eqb}
+use Rattle.tva_waiting.proofs.Common.{rules, ◌∙◌, ne_eqb}
 use Rattle.tva_waiting.proofs.Held.{row_is_next, row_not_next}
 use Rattle.tva_waiting.proofs.lanes.Lanes.is_row.Goals as goal
 

@@ -1,11 +1,4 @@
-use Rattle.std.proofs.Common.{rules, ◌≡◌, ◌+◌, ◌++◌, ◌∷◌, [], Some, None, refl, sym, ◌∙◌, ap}
-use Rattle.tva_index.specs.KeyRing.{place_in, ring}
-use Rattle.tva_log.specs.Joins.{sorted}
-use Rattle.tva_log.specs.Entries.{input_source, input_time}
-use Rattle.tva_waiting.specs.Queues.{all_in}
-use Rattle.tva_waiting.specs.declared.lanes.Lane.{Lane}
-use Rattle.tva_waiting.specs.Lanes.{queues_of, sources_of}
-use Rattle.tva_waiting.specs.declared.lanes.Lanes.{Lanes}
+use Rattle.tva_waiting.proofs.Common.{rules, ◌≡◌, ◌+◌, ◌++◌, ◌∷◌, [], Some, None, refl, sym, ◌∙◌, ap, place_in, ring, sorted, input_source, input_time, all_in, Lane, queues_of, sources_of, Lanes}
 use Rattle.tva_waiting.proofs.Held.{lane_found, lane_made}
 use Rattle.tva_waiting.proofs.lanes.Lanes.lane_of.Goals as goal
 

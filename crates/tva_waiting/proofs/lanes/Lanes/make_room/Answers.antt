@@ -1,7 +1,4 @@
-use Rattle.std.proofs.Common.{rules, ◌≤◌, ◌+◌, ◌*◌, length, refl, arith}
-use Rattle.std.proofs.lemmas.List.{length-map}
-use Rattle.tva_waiting.specs.declared.lanes.Lanes.{Lanes}
-use Rattle.tva_waiting.specs.Lanes.{lane_queue, queues_in}
+use Rattle.tva_waiting.proofs.Common.{rules, ◌≤◌, ◌+◌, ◌*◌, length, refl, arith, length-map, Lanes, lane_queue, queues_in}
 use Rattle.tva_waiting.proofs.Finding.{few_queues}
 use Rattle.tva_waiting.proofs.Held.{waiting_changed}
 use Rattle.tva_waiting.proofs.lanes.Lanes.make_room.Goals as goal

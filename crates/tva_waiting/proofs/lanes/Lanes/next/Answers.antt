@@ -1,6 +1,4 @@
-use Rattle.std.proofs.Common.{◌≤◌, length, subst, arith}
-use Rattle.tva_index.specs.Lowest.{IsLeastPlace}
-use Rattle.tva_waiting.specs.Lanes.{queues_in}
+use Rattle.tva_waiting.proofs.Common.{◌≤◌, length, subst, arith, IsLeastPlace, queues_in}
 use Rattle.tva_waiting.proofs.Finding.{least_next, least_none}
 use Rattle.tva_waiting.proofs.lanes.Lanes.next.Goals as goal
 

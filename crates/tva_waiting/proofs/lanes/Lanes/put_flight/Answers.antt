@@ -1,10 +1,5 @@
-use Rattle.std.proofs.Common.{rules, add-one, ap₂, ◌*◌, ◌^◌, ◌≡◌, ◌≤◌, ◌+◌, length, get_or, set, refl, sym, subst, ◌∙◌, ap}
-use Rattle.std.specs.Prelude.{insert}
-use Rattle.tva_log.specs.Joins.{IsInOrder, put_in}
-use Rattle.tva_waiting.specs.declared.lanes.Lane.{Lane}
-use Rattle.tva_waiting.specs.declared.lanes.Lanes.{Lanes}
-use Rattle.tva_waiting.specs.Lanes.{flight_source, flight_time}
-use Rattle.std.specs.Vec.{with_item}
+use Rattle.tva_waiting.proofs.Common.{rules, add-one, ap₂, ◌*◌, ◌≡◌, ◌≤◌, ◌+◌, length, get_or, set, refl, sym, subst, ◌∙◌, ap, insert, IsInOrder, put_in, Lane, Lanes, flight_source, flight_time, with_item}
+use Rattle.std.proofs.Common.{◌^◌}
 use Rattle.tva_waiting.proofs.Finding.{any_default}
 use Rattle.tva_waiting.proofs.Held.{flight_waits, lane_in_order}
 use Rattle.tva_waiting.proofs.lanes.Lanes.put_flight.Goals as goal

@@ -1,5 +1,4 @@
-use Rattle.std.proofs.Common.{rules, set, refl, ◌∙◌, ap}
-use Rattle.tva_waiting.specs.declared.lanes.Lanes.{Lanes}
+use Rattle.tva_waiting.proofs.Common.{rules, set, refl, ◌∙◌, ap, Lanes}
 use Rattle.tva_waiting.proofs.Held.{row_waits, rows_in_order}
 use Rattle.tva_waiting.proofs.lanes.Lanes.put_turn.Goals as goal
 

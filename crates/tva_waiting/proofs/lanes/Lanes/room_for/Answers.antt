@@ -1,7 +1,4 @@
-use Rattle.std.proofs.Common.{◌≡◌, get_or, refl, ◌∙◌, ap}
-use Rattle.tva_waiting.specs.declared.lanes.Lane.{Lane}
-use Rattle.tva_waiting.specs.declared.lanes.Lanes.{Lanes}
-use Rattle.std.specs.Vec.{with_item}
+use Rattle.tva_waiting.proofs.Common.{◌≡◌, get_or, refl, ◌∙◌, ap, Lane, Lanes, with_item}
 use Rattle.tva_waiting.proofs.Finding.{any_default}
 use Rattle.tva_waiting.proofs.Held.{same_flights}
 use Rattle.tva_waiting.proofs.lanes.Lanes.room_for.Goals as goal

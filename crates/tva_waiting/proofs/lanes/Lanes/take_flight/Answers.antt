@@ -1,9 +1,4 @@
-use Rattle.std.proofs.Common.{rules, ◌≡◌, ◌-◌, length, map, get_or, set, refl, sym, ◌∙◌, ap, arith}
-use Rattle.std.proofs.lemmas.List.{get_or-set_same}
-use Rattle.tva_waiting.specs.Inputs.{arrived}
-use Rattle.tva_waiting.specs.Queues.{head_of}
-use Rattle.tva_waiting.specs.declared.lanes.Lanes.{Lanes}
-use Rattle.std.specs.Vec.{with_item}
+use Rattle.tva_waiting.proofs.Common.{rules, ◌≡◌, ◌-◌, length, map, get_or, set, refl, sym, ◌∙◌, ap, arith, get_or-set_same, arrived, head_of, Lanes, with_item}
 use Rattle.tva_waiting.proofs.Finding.{any_default}
 use Rattle.tva_waiting.proofs.Held.{flight_taken, lane_next}
 use Rattle.tva_waiting.proofs.lanes.Lanes.take_flight.Goals as goal

@@ -1,5 +1,4 @@
-use Rattle.std.proofs.Common.{rules, ◌≡◌, length, set, refl, ◌∙◌, ap}
-use Rattle.tva_waiting.specs.declared.lanes.Lanes.{Lanes}
+use Rattle.tva_waiting.proofs.Common.{rules, ◌≡◌, length, set, refl, ◌∙◌, ap, Lanes}
 use Rattle.tva_waiting.proofs.Held.{row_taken, rows_wait}
 use Rattle.tva_waiting.proofs.lanes.Lanes.take_turn.Goals as goal
 

@@ -1,5 +1,4 @@
-use Rattle.std.proofs.Common.{refl, ◌∙◌}
-use Rattle.tva_waiting.specs.declared.lanes.Lanes.{Lanes}
+use Rattle.tva_waiting.proofs.Common.{refl, ◌∙◌, Lanes}
 use Rattle.tva_waiting.proofs.Held.{waiting_grown}
 use Rattle.tva_waiting.proofs.lanes.Lanes.turn_of.Goals as goal
 

@@ -1,9 +1,0 @@
-pub mod Given
-pub mod Found
-pub mod Texts
-pub mod Pieces
-pub mod Replays
-pub mod HexWords
-pub mod Windowed
-pub mod SumLines
-pub mod Audits

@@ -1,8 +1,0 @@
-use Rattle.std.proofs.Common.{◌≡◌, take}
-use Rattle.std.specs.List.{flat_map}
-use Rattle.tva_commands.specs.Audit.{sum_line}
-use Rattle.tva_commands.proofs.audited.put_sums.Given as goal
-
--- the lines of the routers up to here
-abbrev pub invariant-loop-sum : goal.invariant-loop-sum
-invariant-loop-sum l = l.text.items ≡ flat_map (sum_line l.plan) (take l.sum-index l.sums)

@@ -1,6 +1,0 @@
-use Rattle.std.proofs.Common.{◌≡◌, take}
-use Rattle.tva_commands.proofs.command.shim_bytes.Given as goal
-
--- the bytes up to here are there
-abbrev pub invariant-loop-byte : goal.invariant-loop-byte
-invariant-loop-byte l = l.all.items ≡ take l.byte-index l.bytes

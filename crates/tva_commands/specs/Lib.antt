@@ -1,9 +1,0 @@
-pub mod Answer
-pub mod Audit
-pub mod Check
-pub mod Command
-pub mod Expected
-pub mod Given
-pub mod Parts
-pub mod Status
-pub mod Asked

@@ -1,2 +1,0 @@
-mod premises;
-mod verdicts;

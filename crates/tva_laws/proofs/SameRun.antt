@@ -1,0 +1,145 @@
+-- The logs of the walk over a restart with the same master are a run.
+use Rattle.tva_laws.proofs.Common.{◌≡◌, ℕ, zero, suc, true, false, List, [], ◌∷◌, Some, refl, subst, arith, All-from_recursion, same_Some, in_force, credit_of, PacketData, layout, two_bytes, six_bytes, eight_bytes, number_bytes, list_verdict, nonce_verdict, is_granted, under_grant, decision, link_to, answer_to_shown, answer_to_nonce, judged_shim, handle, intended, after_intending, receipt_of, after_receipt, IsRow, AreTraceRows, from_source, Input, FromTrace, Arrival, Site, Arrived, Entry, input_source, content, arrived, GoesOn, due, start_after, at_time, log_at, reaches, site_at, HasLog, IsRunTo, segment_due, range_of, after_upper, answer_to, walk_router, restart_config, sends, a_request, a_list, a_nonce, b_grant, b_notice, first_cap, first_request, first_grant, charged_to, same_rows, same_logs, same_log_a, same_log_b, same_log_router, same_until, again, renewal, renewed, renewed_cap, renewed_grant, renewed_list, before_again, before_renewal, before_list}
+use Rattle.tva_laws.proofs.WorkedRuns.{none_from, has_by, by_number, triple, pair}
+use Rattle.tva_laws.proofs.Walkable.{none_begins}
+use Rattle.tva_laws.proofs.Networks.{sent}
+use Rattle.tva_laws.proofs.Nodes.{router_site, a_site, b_site, lasts, first_passes}
+
+-- ## rows
+
+pub traced : AreTraceRows (restart_config walk_router.master) same_rows
+traced = record {
+  few = omega arith;
+  each = All-from_recursion (IsRow (restart_config walk_router.master)) same_rows (
+      pair (sent walk_router.master 0 77 (omega arith) (omega arith)) (pair
+      (sent walk_router.master 5000000 1000 (omega arith) (omega arith)) (pair
+      (sent walk_router.master 10000000 1000 (omega arith) (omega arith)) (pair
+      (sent walk_router.master 20000000 1000 (omega arith) (omega arith)) (pair
+      (sent walk_router.master 30000000 1000 (omega arith) (omega arith)) (pair
+      (sent walk_router.master 6000000000 1000 (omega arith) (omega arith)) (pair
+      (sent walk_router.master 6010000000 1000 (omega arith) (omega arith)) tt)))))));
+  order = (omega arith, (omega arith, (omega arith, (omega arith, (omega arith, (omega arith, (omega arith, tt)))))));
+  files = λ node. (let none = none_begins node same_rows (refl, (refl, (refl, (refl, (refl, (refl, (refl, tt))))))) in omega (arith, none));
+}
+
+-- ## inputs
+
+abbrev router_inputs : List Input
+router_inputs =
+    Arrival (at_time 1001000) 0 (a_request 1 0 [])
+    ∷ Arrival (at_time 3002450) 3 (b_grant 1 0 [] first_cap)
+    ∷ Arrival (at_time 6010400) 0 (a_list 2 2 0 0 first_cap)
+    ∷ Arrival (at_time 11010280) 0 (a_nonce 3 0 false)
+    ∷ Arrival (at_time 13020800) 3 (b_notice 2 0)
+    ∷ Arrival (at_time 21010400) 0 (again 0 0)
+    ∷ Arrival (at_time 31010280) 0 (a_nonce 5 0 false)
+    ∷ Arrival (at_time 6001010400) 0 renewal
+    ∷ Arrival (at_time 6003021150) 3 (b_grant 3 0 [] renewed_cap)
+    ∷ Arrival (at_time 6011010400) 0 (renewed_list 0 0)
+    ∷ []
+
+abbrev a_inputs : List Input
+a_inputs =
+    FromTrace (sends 0 77)
+    ∷ Arrival (at_time 4002900) 1 first_grant
+    ∷ FromTrace (sends 5000000 1000)
+    ∷ FromTrace (sends 10000000 1000)
+    ∷ Arrival (at_time 14021040) 1 (b_notice 2 1)
+    ∷ FromTrace (sends 20000000 1000)
+    ∷ FromTrace (sends 30000000 1000)
+    ∷ FromTrace (sends 6000000000 1000)
+    ∷ Arrival (at_time 6004021600) 1 renewed_grant
+    ∷ FromTrace (sends 6010000000 1000)
+    ∷ []
+
+abbrev b_inputs : List Input
+b_inputs =
+    Arrival (at_time 2002100) 2 first_request
+    ∷ Arrival (at_time 7020800) 2 (a_list 2 2 1 1 first_cap)
+    ∷ Arrival (at_time 12020560) 2 (a_nonce 3 1 true)
+    ∷ Arrival (at_time 22020800) 2 (again 1 1)
+    ∷ Arrival (at_time 32020560) 2 (a_nonce 5 1 false)
+    ∷ Arrival (at_time 6002020800) 2 renewed
+    ∷ []
+
+abbrev Gives : ℕ → List Input → ℕ → Type 0
+Gives node inputs s = from_source input_source s inputs ≡ due same_until (reaches (restart_config walk_router.master) same_rows same_logs node s)
+
+router_gives : (s : ℕ) → Gives 0 router_inputs s
+unfolding layout two_bytes six_bytes eight_bytes number_bytes
+router_gives = by_number 5 (Gives 0 router_inputs) (refl, (refl, (refl, (refl, (refl, tt))))) (λ n. none_from 4 (suc (suc (suc (suc (suc n))))) router_inputs (omega arith) refl)
+
+a_gives : (s : ℕ) → Gives 1 a_inputs s
+unfolding layout two_bytes six_bytes eight_bytes number_bytes
+a_gives = by_number 5 (Gives 1 a_inputs) (refl, (refl, (refl, (refl, (refl, tt))))) (λ n. none_from 4 (suc (suc (suc (suc (suc n))))) a_inputs (omega arith) refl)
+
+b_gives : (s : ℕ) → Gives 2 b_inputs s
+unfolding layout two_bytes six_bytes eight_bytes number_bytes
+b_gives = by_number 5 (Gives 2 b_inputs) (refl, (refl, (refl, (refl, (refl, tt))))) (λ n. none_from 4 (suc (suc (suc (suc (suc n))))) b_inputs (omega arith) refl)
+
+-- ## what each node makes of them
+
+abbrev Passes : List Entry → ℕ → PacketData → ℕ → PacketData → Type 0
+Passes before time packet second onward = content (router_site walk_router.master) before (Arrival (at_time time) 0 packet)
+    ≡ Some (Arrived (Some 0) packet (charged_to second 2) onward)
+
+again_passes : Passes before_again 21010400 (again 0 0) 0 (again 1 1)
+unfolding layout two_bytes six_bytes eight_bytes number_bytes credit_of list_verdict link_to answer_to_shown judged_shim handle arrived in_force
+again_passes = rw (lasts walk_router.master 1001000 21010400 (omega arith) (omega arith)) refl
+
+renewal_passes : Passes before_renewal 6001010400 renewal 0 renewed
+unfolding layout two_bytes six_bytes eight_bytes number_bytes credit_of list_verdict link_to answer_to_shown judged_shim handle arrived in_force
+renewal_passes = rw (lasts walk_router.master 1001000 6001010400 (omega arith) (omega arith)) refl
+
+renewed_passes : Passes before_list 6011010400 (renewed_list 0 0) 6 (renewed_list 1 1)
+unfolding layout two_bytes six_bytes eight_bytes number_bytes credit_of list_verdict link_to answer_to_shown judged_shim handle arrived in_force
+renewed_passes = rw (lasts walk_router.master 6001010400 6011010400 (omega arith) (omega arith)) refl
+
+router_steps : GoesOn (router_site walk_router.master) [] router_inputs same_log_router
+unfolding layout two_bytes six_bytes eight_bytes number_bytes credit_of nonce_verdict link_to answer_to_nonce judged_shim handle arrived decision start_after in_force
+router_steps =
+    triple refl refl (pair refl (triple refl refl (pair refl (triple refl
+    (first_passes walk_router.master) (pair refl (triple refl refl (pair refl (triple refl refl (pair
+    refl (triple refl again_passes (pair refl (triple refl refl (pair refl (triple refl renewal_passes
+    (pair refl (triple refl refl (pair refl (triple refl renewed_passes (pair refl
+    tt)))))))))))))))))))
+
+a_steps : GoesOn a_site [] a_inputs same_log_a
+unfolding layout two_bytes six_bytes eight_bytes number_bytes credit_of is_granted under_grant decision link_to intended after_intending receipt_of after_receipt segment_due range_of after_upper answer_to start_after
+a_steps =
+    triple refl refl (pair refl (triple refl refl (triple refl refl (pair refl (triple refl refl
+    (pair refl (triple refl refl (triple refl refl (pair refl (triple refl refl (pair refl (triple
+    refl refl (pair refl (triple refl refl (triple refl refl (pair refl tt))))))))))))))))
+
+b_steps : GoesOn b_site [] b_inputs same_log_b
+unfolding layout two_bytes six_bytes eight_bytes number_bytes credit_of is_granted under_grant decision link_to intended after_intending receipt_of after_receipt segment_due range_of after_upper answer_to start_after
+b_steps = (refl, refl, (refl, (refl, refl, (refl, refl, (refl, (refl, refl, (refl, refl, (refl, refl, (refl, tt)))))))))
+
+-- ## the run
+
+abbrev Has : Site → List Entry → Type 0
+Has site log = HasLog (restart_config walk_router.master) same_rows same_logs same_until site log
+
+router_has : Has (router_site walk_router.master) same_log_router
+unfolding layout two_bytes six_bytes eight_bytes number_bytes
+router_has = has_by (restart_config walk_router.master) same_rows same_logs same_until (router_site walk_router.master) router_inputs same_log_router
+    (record { turns = refl; gives = router_gives; order = refl; early = refl; steps = router_steps; calm = (refl, (refl, tt)) })
+
+a_has : Has a_site same_log_a
+unfolding layout two_bytes six_bytes eight_bytes number_bytes
+a_has = has_by (restart_config walk_router.master) same_rows same_logs same_until a_site a_inputs same_log_a
+    (record { turns = refl; gives = a_gives; order = refl; early = refl; steps = a_steps; calm = (refl, tt) })
+
+b_has : Has b_site same_log_b
+unfolding layout two_bytes six_bytes eight_bytes number_bytes
+b_has = has_by (restart_config walk_router.master) same_rows same_logs same_until b_site b_inputs same_log_b
+    (record { turns = refl; gives = b_gives; order = refl; early = refl; steps = b_steps; calm = (refl, tt) })
+
+has : (node : ℕ) (site : Site) → site_at (restart_config walk_router.master) node ≡ Some site → Has site (log_at same_logs node)
+has zero site e = subst (λ (s : Site). Has s same_log_router) (same_Some (router_site walk_router.master) site e) router_has
+has (suc zero) site e = subst (λ (s : Site). Has s same_log_a) (same_Some a_site site e) a_has
+has (suc (suc zero)) site e = subst (λ (s : Site). Has s same_log_b) (same_Some b_site site e) b_has
+has (suc (suc (suc n))) site e = absurd (cc)
+
+pub is_run : IsRunTo (restart_config walk_router.master) same_rows same_until same_logs
+is_run = record { within = omega arith; count = refl; each = has }

@@ -1,5 +1,0 @@
-use Rattle.tva_log.proofs.Joined.{join-cut}
-use Rattle.tva_log.proofs.joining.cut_joins.Goals as goal
-
-pub returns : goal.returns
-returns g c = λ time source gives until xs j. join-cut time source gives until xs j

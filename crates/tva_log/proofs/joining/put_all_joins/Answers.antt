@@ -1,5 +1,0 @@
-use Rattle.tva_log.proofs.Joined.{join-put_all}
-use Rattle.tva_log.proofs.joining.put_all_joins.Goals as goal
-
-pub returns : goal.returns
-returns g c = λ time source gives xs ys j rises. join-put_all time source gives xs ys j rises

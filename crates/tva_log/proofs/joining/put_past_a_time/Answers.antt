@@ -1,5 +1,0 @@
-use Rattle.tva_log.proofs.Putting.{cut-put_all}
-use Rattle.tva_log.proofs.joining.put_past_a_time.Goals as goal
-
-pub returns : goal.returns
-returns g c = λ time source until xs ys late. cut-put_all time source until xs ys late

@@ -1,5 +1,0 @@
-use Rattle.tva_log.proofs.Logs.{cut_same}
-use Rattle.tva_log.proofs.laws.log_ends.Goals as goal
-
-pub returns : goal.returns
-returns c = λ site inputs until log h. cut_same site inputs until log h

@@ -1,5 +1,0 @@
-use Rattle.tva_log.proofs.Logs.{IsNodeLog-cut}
-use Rattle.tva_log.proofs.laws.log_up_to.Goals as goal
-
-pub returns : goal.returns
-returns c = λ site inputs time until log order early h. IsNodeLog-cut site inputs time until log order early h

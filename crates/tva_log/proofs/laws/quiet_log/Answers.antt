@@ -1,5 +1,0 @@
-use Rattle.tva_log.proofs.Quiet.{quiet_log}
-use Rattle.tva_log.proofs.laws.quiet_log.Goals as goal
-
-pub returns : goal.returns
-returns c = λ site inputs from until log later quiet h. quiet_log site inputs from until log later quiet h

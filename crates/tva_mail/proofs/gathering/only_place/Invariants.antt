@@ -1,5 +1,0 @@
-use Rattle.tva_mail.proofs.Handed.{IsOnlySoFar}
-use Rattle.tva_mail.proofs.gathering.only_place.Given as goal
-
-abbrev pub invariant-loop-place : goal.invariant-loop-place
-invariant-loop-place l = IsOnlySoFar l.nodes l.places l.place-index l.only

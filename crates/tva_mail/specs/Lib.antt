@@ -1,5 +1,0 @@
-pub mod News
-pub mod Places
-pub mod Times
-pub mod Mail
-pub mod Handing

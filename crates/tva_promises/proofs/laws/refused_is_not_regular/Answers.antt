@@ -1,5 +1,0 @@
-use Rattle.tva_promises.proofs.Fates.{refused}
-use Rattle.tva_promises.proofs.laws.refused_is_not_regular.Goals as goal
-
-pub returns : goal.returns
-returns c plan h logs now from p fate onward cause is e regular = refused plan h logs now from p fate onward cause is e regular

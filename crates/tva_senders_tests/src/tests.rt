@@ -1,2 +1,0 @@
-mod policies;
-mod senders;

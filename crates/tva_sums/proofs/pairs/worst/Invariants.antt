@@ -1,7 +1,0 @@
-use Rattle.std.proofs.Common.{◌≡◌, Some, drop}
-use Rattle.tva_sums.specs.Sums.{worst_from, worst_of}
-use Rattle.tva_sums.proofs.pairs.worst.Given as goal
-
--- the worst of those so far stands for them
-abbrev pub invariant-loop-sum : goal.invariant-loop-sum
-invariant-loop-sum l = worst_of l.sums ≡ Some (worst_from l.worst (drop l.sum-index l.rest))

@@ -1,5 +1,0 @@
-pub mod Charged
-pub mod Pairs
-pub mod Sums
-pub mod Worst
-pub mod Table

@@ -1,6 +1,0 @@
-//! Tests of what texts are read as, and of what lines and differences say, where no run of the program
-//! shows it. They stand in a crate of their own, since a crate is proved once more with its tests.
-#![tactic(auto)]
-
-#[cfg(test)]
-mod tests;
