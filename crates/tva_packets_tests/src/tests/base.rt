@@ -5,210 +5,234 @@ use tva_base::{
     rights_number, rights_size, version_for,
 };
 
-// Lengths, rights and credits in nanoseconds.
-const CREDITS: [(u32, u32, u8, u64); 32] = [
-    (512, 1, 2, 1_000_000_000),
-    (1_024, 32, 10, 312_500_000),
-    (64, 1, 16, 1_000_000_000),
-    (1_023, 1, 2, 1_998_046_875),
-    (1_024, 1, 1, 1_000_000_000),
-    (2_048, 2, 1, 1_000_000_000),
-    (0, 1, 10, 0),
-    (20, 1, 0, 0),
-    (40, 3, 1, 13_020_834),
-    (28, 3, 1, 9_114_584),
-    (39, 3, 1, 12_695_313),
-    (48, 3, 1, 15_625_000),
-    (1, 1023, 1, 955),
-    (20, 1023, 1, 19_093),
-    (20, 1023, 63, 1_202_805),
-    (2_048, 1023, 63, 123_167_156),
-    (2_048, 1, 63, 126_000_000_000),
-    (2_047, 1, 63, 125_938_476_563),
-    (2_048, 1023, 1, 1_955_035),
-    (1_023, 1023, 1, 976_563),
-    (1, 1, 1, 976_563),
-    (1, 1, 63, 61_523_438),
-    (52, 32, 10, 15_869_141),
-    (28, 32, 10, 8_544_922),
-    (1_028, 32, 10, 313_720_704),
-    (1_040, 32, 10, 317_382_813),
-    (1_500, 7, 13, 2_720_424_108),
-    (1_501, 1021, 61, 87_575_945),
-    (514, 1024, 64, 31_372_071),
-    (28, 1024, 64, 1_708_985),
-    (20, 1_048_575, 127, 2_366),
-    (2_048, 1_048_575, 127, 242_234),
-];
+// Lengths, units, seconds and credits in nanoseconds.
+const CREDITS: &str = "\
+512|1|2|1000000000
+1024|32|10|312500000
+64|1|16|1000000000
+1023|1|2|1998046875
+1024|1|1|1000000000
+2048|2|1|1000000000
+0|1|10|0
+20|1|0|0
+40|3|1|13020834
+28|3|1|9114584
+39|3|1|12695313
+48|3|1|15625000
+1|1023|1|955
+20|1023|1|19093
+20|1023|63|1202805
+2048|1023|63|123167156
+2048|1|63|126000000000
+2047|1|63|125938476563
+2048|1023|1|1955035
+1023|1023|1|976563
+1|1|1|976563
+1|1|63|61523438
+52|32|10|15869141
+28|32|10|8544922
+1028|32|10|313720704
+1040|32|10|317382813
+1500|7|13|2720424108
+1501|1021|61|87575945
+514|1024|64|31372071
+28|1024|64|1708985
+20|1048575|127|2366
+2048|1048575|127|242234";
 
 // Versions, rights, and their number, where a shim of the version can carry them.
-const RIGHTS: [(u8, u32, u8, Option<u32>); 16] = [
-    (1, 0, 0, Some(0)),
-    (1, 32, 10, Some(0x080a)),
-    (1, 1, 2, Some(0x0042)),
-    (1, 1_023, 63, Some(0xffff)),
-    (1, 1_024, 63, None),
-    (1, 1_023, 64, None),
-    (1, 1_048_575, 127, None),
-    (2, 0, 0, Some(0)),
-    (2, 32, 10, Some(0x0000_100a)),
-    (2, 1_023, 63, Some(0x0001_ffbf)),
-    (2, 1_024, 64, Some(0x0002_0040)),
-    (2, 1_048_575, 127, Some(0x07ff_ffff)),
-    (2, 1_048_576, 0, None),
-    (2, 0, 128, None),
-    (2, 1_049_600, 64, None),
-    (2, 4_294_967_295, 255, None),
-];
+const RIGHTS: &str = "\
+1|0|0|0
+1|32|10|2058
+1|1|2|66
+1|1023|63|65535
+1|1024|63|none
+1|1023|64|none
+1|1048575|127|none
+2|0|0|0
+2|32|10|4106
+2|1023|63|131007
+2|1024|64|131136
+2|1048575|127|134217727
+2|1048576|0|none
+2|0|128|none
+2|1049600|64|none
+2|4294967295|255|none";
 
-const ADDRESSES: [(&str, Option<u32>); 31] = [
-    ("10.0.0.1", Some(0x0a000001)),
-    ("0.0.0.0", Some(0x00000000)),
-    ("255.255.255.255", Some(0xffffffff)),
-    ("1.2.3.4", Some(0x01020304)),
-    ("192.168.100.200", Some(0xc0a864c8)),
-    ("", None),
-    ("10.0.0", None),
-    ("10.0.0.", None),
-    ("10.0.0.1.", None),
-    (".10.0.0.1", None),
-    ("10.0.0.1.2", None),
-    ("10..0.1", None),
-    ("256.0.0.1", None),
-    ("10.0.0.256", None),
-    ("10.0.0.999", None),
-    ("10.0.0.1000", None),
-    ("10.0.0.01", None),
-    ("00.0.0.1", None),
-    ("010.0.0.1", None),
-    (" 10.0.0.1", None),
-    ("10.0.0.1 ", None),
-    ("10.0. 0.1", None),
-    ("+10.0.0.1", None),
-    ("10.0.0.-1", None),
-    ("10.0.0.a", None),
-    ("0x0a.0.0.1", None),
-    ("10,0,0,1", None),
-    ("10.0.0.1/32", None),
-    ("167772161", None),
-    ("...", None),
-    ("1.1.1.1.1.1.1.1", None),
-];
+// What is read, a text, and what it is read as: an address as its number, a prefix as 64 times the number of its address
+// and its bits, an address and a prefix as 1 where the one begins with the other, and a number up to the greatest.
+const READ: &str = "\
+address|10.0.0.1|167772161
+address|0.0.0.0|0
+address|255.255.255.255|4294967295
+address|1.2.3.4|16909060
+address|192.168.100.200|3232261320
+address||none
+address|10.0.0|none
+address|10.0.0.|none
+address|10.0.0.1.|none
+address|.10.0.0.1|none
+address|10.0.0.1.2|none
+address|10..0.1|none
+address|256.0.0.1|none
+address|10.0.0.256|none
+address|10.0.0.999|none
+address|10.0.0.1000|none
+address|10.0.0.01|none
+address|00.0.0.1|none
+address|010.0.0.1|none
+address| 10.0.0.1|none
+address|10.0.0.1 |none
+address|10.0. 0.1|none
+address|+10.0.0.1|none
+address|10.0.0.-1|none
+address|10.0.0.a|none
+address|0x0a.0.0.1|none
+address|10,0,0,1|none
+address|10.0.0.1/32|none
+address|167772161|none
+address|...|none
+address|1.1.1.1.1.1.1.1|none
+prefix|10.0.0.0/24|10737418264
+prefix|10.0.1.77/24|10737434648
+prefix|10.0.1.77/0|0
+prefix|255.255.255.255/0|0
+prefix|255.255.255.255/1|137438953473
+prefix|255.255.255.255/31|274877906847
+prefix|10.0.1.77/32|10737439584
+prefix|0.0.0.0/32|32
+prefix|172.16.99.1/12|184750702604
+prefix|10.0.1.77/23|10737418263
+prefix|10.0.1.77/33|none
+prefix|10.0.1.77/08|none
+prefix|10.0.1.77/00|none
+prefix|10.0.1.77/|none
+prefix|10.0.1.77|none
+prefix|/24|none
+prefix||none
+prefix|10.0.1/24|none
+prefix|10.0.1.77/-1|none
+prefix|10.0.1.77/+1|none
+prefix|10.0.1.77/ 24|none
+prefix|10.0.1.77 /24|none
+prefix|10.0.1.77/24/24|none
+prefix|10.0.1.77//24|none
+prefix|10.0.1.077/24|none
+prefix|10.0.1.77/024|none
+prefix|10.0.1.77/100|none
+prefix|10.0.1.77/2a|none
+holds 10.0.1.0|10.0.1.0/24|1
+holds 10.0.1.255|10.0.1.0/24|1
+holds 10.0.2.0|10.0.1.0/24|0
+holds 10.0.0.255|10.0.1.0/24|0
+holds 0.0.0.0|0.0.0.0/0|1
+holds 255.255.255.255|0.0.0.0/0|1
+holds 127.255.255.255|128.0.0.0/1|0
+holds 128.0.0.0|128.0.0.0/1|1
+holds 10.0.1.77|10.0.1.77/32|1
+holds 10.0.1.76|10.0.1.77/32|0
+holds 10.0.1.77|10.0.1.76/31|1
+holds 10.0.1.78|10.0.1.76/31|0
+most 0|0|0
+most 7|7|7
+most 7|8|none
+most 7|007|7
+most 7||none
+most 7|+1|none
+most 7|-1|none
+most 7| 1|none
+most 7|1 |none
+most 100|1_0|none
+most 100|1.0|none
+most 100|1e1|none
+most 100|0x1|none
+most 100|a|none
+most 18446744073709551615|99999999999999999999|none
+most 18446744073709551615|18446744073709551615|18446744073709551615
+most 18446744073709551615|18446744073709551616|none
+most 18446744073709551614|18446744073709551615|none
+most 7|00000000000000000001|1
+most 7|000000000000000000001|none
+most 0|00000000000000000000|0
+most 0|000000000000000000000|none
+most 1000000000000000|1000000000000000|1000000000000000
+most 1000000000000000|1000000000000001|none
+most 8|9|none
+most 9|10|none
+most 1600|1600|1600
+most 1600|01601|none";
 
-const PREFIXES: [(&str, Option<(u32, u8)>); 28] = [
-    ("10.0.0.0/24", Some((0x0a000000, 24))),
-    ("10.0.1.77/24", Some((0x0a000100, 24))),
-    ("10.0.1.77/0", Some((0x00000000, 0))),
-    ("255.255.255.255/0", Some((0x00000000, 0))),
-    ("255.255.255.255/1", Some((0x80000000, 1))),
-    ("255.255.255.255/31", Some((0xfffffffe, 31))),
-    ("10.0.1.77/32", Some((0x0a00014d, 32))),
-    ("0.0.0.0/32", Some((0x00000000, 32))),
-    ("172.16.99.1/12", Some((0xac100000, 12))),
-    ("10.0.1.77/23", Some((0x0a000000, 23))),
-    ("10.0.1.77/33", None),
-    ("10.0.1.77/08", None),
-    ("10.0.1.77/00", None),
-    ("10.0.1.77/", None),
-    ("10.0.1.77", None),
-    ("/24", None),
-    ("", None),
-    ("10.0.1/24", None),
-    ("10.0.1.77/-1", None),
-    ("10.0.1.77/+1", None),
-    ("10.0.1.77/ 24", None),
-    ("10.0.1.77 /24", None),
-    ("10.0.1.77/24/24", None),
-    ("10.0.1.77//24", None),
-    ("10.0.1.077/24", None),
-    ("10.0.1.77/024", None),
-    ("10.0.1.77/100", None),
-    ("10.0.1.77/2a", None),
-];
+// The number in a word, and none where it says so.
+fn number(word: Option<&str>) -> Option<u64> {
+    word.and_then(|word| word.parse().ok())
+}
 
-// Texts of prefixes, texts of addresses, and whether the one begins with the other.
-const HELD: [(&str, &str, bool); 12] = [
-    ("10.0.1.0/24", "10.0.1.0", true),
-    ("10.0.1.0/24", "10.0.1.255", true),
-    ("10.0.1.0/24", "10.0.2.0", false),
-    ("10.0.1.0/24", "10.0.0.255", false),
-    ("0.0.0.0/0", "0.0.0.0", true),
-    ("0.0.0.0/0", "255.255.255.255", true),
-    ("128.0.0.0/1", "127.255.255.255", false),
-    ("128.0.0.0/1", "128.0.0.0", true),
-    ("10.0.1.77/32", "10.0.1.77", true),
-    ("10.0.1.77/32", "10.0.1.76", false),
-    ("10.0.1.76/31", "10.0.1.77", true),
-    ("10.0.1.76/31", "10.0.1.78", false),
-];
+// What a text is read as.
+fn reading(what: &str, text: &[u8]) -> Option<u64> {
+    match what.split_once(' ') {
+        Some(("most", most)) => decimal(text, most.parse().unwrap_or(0)),
+        Some((_, held)) => Some(u64::from(prefix(text)?.holds(address(held.as_bytes())?))),
+        None if what == "address" => Some(u64::from(address(text)?.0)),
+        None => {
+            let prefix = prefix(text)?;
+            Some(u64::from(prefix.address.0) * 64 + u64::from(prefix.bits))
+        }
+    }
+}
 
-// Texts, the greatest number that is taken, and the number.
-const DECIMALS: [(&str, u64, Option<u64>); 28] = [
-    ("0", 0, Some(0)),
-    ("7", 7, Some(7)),
-    ("8", 7, None),
-    ("007", 7, Some(7)),
-    ("", 7, None),
-    ("+1", 7, None),
-    ("-1", 7, None),
-    (" 1", 7, None),
-    ("1 ", 7, None),
-    ("1_0", 100, None),
-    ("1.0", 100, None),
-    ("1e1", 100, None),
-    ("0x1", 100, None),
-    ("a", 100, None),
-    ("99999999999999999999", 18_446_744_073_709_551_615, None),
-    (
-        "18446744073709551615",
-        18_446_744_073_709_551_615,
-        Some(18_446_744_073_709_551_615),
-    ),
-    ("18446744073709551616", 18_446_744_073_709_551_615, None),
-    ("18446744073709551615", 18_446_744_073_709_551_614, None),
-    ("00000000000000000001", 7, Some(1)),
-    ("000000000000000000001", 7, None),
-    ("00000000000000000000", 0, Some(0)),
-    ("000000000000000000000", 0, None),
-    (
-        "1000000000000000",
-        1_000_000_000_000_000,
-        Some(1_000_000_000_000_000),
-    ),
-    ("1000000000000001", 1_000_000_000_000_000, None),
-    ("9", 8, None),
-    ("10", 9, None),
-    ("1600", 1_600, Some(1_600)),
-    ("01601", 1_600, None),
-];
+// Whether the text in a line is read as what the line says.
+fn is_read(line: &str) -> bool {
+    let mut words = line.split('|');
+    let (what, text) = (words.next().unwrap_or(""), words.next().unwrap_or(""));
+    reading(what, text.as_bytes()) == number(words.next())
+}
 
-#[test]
-fn credits_round_up(rt: HostRuntime) {
-    for (length, n, t, want) in CREDITS {
-        assert!(rt; n >= 1 && length <= 2048);
-        assert_eq!(rt; credit(length, Rights { n, t }), want, "{length} {n} {t}");
+// Rights in two words.
+fn rights_of(n: Option<&str>, t: Option<&str>) -> Rights {
+    Rights {
+        n: u32::try_from(number(n).unwrap_or(0)).unwrap_or(0),
+        t: u8::try_from(number(t).unwrap_or(0)).unwrap_or(0),
+    }
+}
+
+// Whether the credit in a line is that of its length and its rights.
+fn is_credit(line: &str) -> bool {
+    let mut words = line.split('|');
+    let length = u32::try_from(number(words.next()).unwrap_or(0)).unwrap_or(0);
+    let rights = rights_of(words.next(), words.next());
+    rights.n >= 1 && length <= 2048 && Some(credit(length, rights)) == number(words.next())
+}
+
+// Whether a shim of a line's version carries its rights under its number, where it has one.
+fn is_carried(line: &str) -> bool {
+    let mut words = line.split('|');
+    let version = u8::try_from(number(words.next()).unwrap_or(0)).unwrap_or(0);
+    let rights = rights_of(words.next(), words.next());
+    match number(words.next()) {
+        Some(number) => {
+            carries(version, rights)
+                && u64::from(rights_number(version, rights)) == number
+                && rights_in(version, rights_number(version, rights)) == Some(rights)
+        }
+        None => !carries(version, rights),
     }
 }
 
 #[test]
-fn rights_have_numbers(rt: HostRuntime) {
-    for (version, n, t, want) in RIGHTS {
-        let rights = Rights { n, t };
-        assert_eq!(rt;
-            carries(version, rights),
-            want.is_some(),
-            "{version} {n} {t}"
-        );
-        if let Some(number) = want {
-            assert!(rt; carries(version, rights));
-            assert_eq!(rt; rights_number(version, rights), number, "{version} {n} {t}");
-            assert_eq!(rt;
-                rights_in(version, number),
-                Some(rights),
-                "{version} {n} {t}"
-            );
-        }
+fn texts_are_read(rt: HostRuntime) {
+    for line in READ.lines() {
+        assert!(rt; is_read(line), "{line}");
     }
+    for line in CREDITS.lines() {
+        assert!(rt; is_credit(line), "{line}");
+    }
+    for line in RIGHTS.lines() {
+        assert!(rt; is_carried(line), "{line}");
+    }
+}
+
+#[test]
+fn versions_carry_rights(rt: HostRuntime) {
     for number in [0x0800_0000, 0x0802_0040, u32::MAX] {
         assert_eq!(rt; rights_in(2, number), None, "{number}");
     }
@@ -218,26 +242,6 @@ fn rights_have_numbers(rt: HostRuntime) {
         assert_eq!(rt; version_for(rights), version, "{n} {t}");
     }
     assert_eq!(rt; (rights_size(1), rights_size(2)), (2, 4));
-}
-
-#[test]
-fn texts_of_numbers_and_addresses(rt: HostRuntime) {
-    for (text, max, want) in DECIMALS {
-        assert_eq!(rt; decimal(text.as_bytes(), max), want, "{text}");
-    }
-    for (text, want) in ADDRESSES {
-        assert_eq!(rt; address(text.as_bytes()).map(|a| a.0), want, "{text}");
-    }
-    for (text, want) in PREFIXES {
-        let got = prefix(text.as_bytes()).map(|p| (p.address.0, p.bits));
-        assert_eq!(rt; got, want, "{text}");
-    }
-    for (text, other, want) in HELD {
-        let held = prefix(text.as_bytes())
-            .zip(address(other.as_bytes()))
-            .map(|p| p.0.holds(p.1));
-        assert_eq!(rt; held, Some(want), "{text} {other}");
-    }
 }
 
 fn crosses<T: Send + Sync>() {}
