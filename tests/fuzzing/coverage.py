@@ -77,6 +77,12 @@ class Coverage:
     def add(self, group, word):
         self.counts[group][word] += 1
 
+    def take(self, other):
+        """Takes what was counted elsewhere."""
+        self.lines += other.lines
+        for group, counts in other.counts.items():
+            self.counts[group] += counts
+
     def see(self, words, status, out, said):
         """One run of the program."""
         self.add("status", str(status))
