@@ -9,7 +9,13 @@ mod senders;
 mod verdicts;
 
 use std::alloc::{AllocError, Global};
-use tva_base::{Upper, decimal};
+use std::process::Abort;
+use tva_base::{Address, Upper, address, decimal};
+
+/// The address of a word.
+fn address_of(rt: &impl Abort, word: Option<&str>) -> Address {
+    address(word.unwrap_or("").as_bytes()).expect(rt, "an address")
+}
 
 /// The number of a word, and 0 where it is none or above the greatest.
 fn number(word: Option<&str>, most: u64) -> u64

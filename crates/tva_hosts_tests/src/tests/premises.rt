@@ -2,10 +2,11 @@
 // for each premise of the law a packet that fails it alone is refused.
 ghost use Rattle.std.specs.Prelude.{◌≤◌};
 
+use super::number;
 use std::alloc::{AllocError, Global};
 use std::process::Abort;
 use std::test::Fail;
-use tva_base::{Address, Caps, Flow, Rights, Time};
+use tva_base::{Address, Caps, Flow, Rights, TIME_MAX, Time};
 use tva_caps::{Checked, Minter, capability};
 use tva_flow::{FlowCache, Verdict};
 use tva_sender::{Held, Sender, Shape};
@@ -22,172 +23,96 @@ const OTHER: Flow = Flow {
 
 const MASTER: [u8; 32] = [7; 32];
 
-/// What becomes of a packet at the router: its ask is minted for, or the word of its verdict.
-#[derive(Clone, Copy, Debug, PartialEq, Eq)]
-enum Told {
-    Minted,
-    Authorised,
-    BadHash,
-    OverN,
-    UnknownNonce,
-    CacheFull,
-    Superseded,
-    Other,
-}
-
-/// What happens, each at a time in nanoseconds: a packet with a body is prepared; a packet that was
-/// prepared, by its place, comes to the router; the grant of the last ask is taken; a packet of another
-/// sender with the last capability, a nonce and a length comes; one of another flow comes; a packet comes
-/// with another capability than its own.
-#[derive(Clone, Copy)]
-enum Step {
-    Prepare(u64, u32),
-    Come(u64, usize, Told),
-    Take,
-    Alien(u64, u64, u32),
-    Fill(u64),
-    Forge(u64, usize, Told),
-}
-
-/// The rights that are granted, the router's slots, and what happens.
-struct Case {
-    name: &'static str,
-    units: u32,
-    slots: u32,
-    steps: &'static [Step],
-}
-
-static CASES: [Case; 9] = [
-    Case {
-        name: "the worked walk: a request, a list and a nonce alone",
-        units: 32,
-        slots: 64,
-        steps: &[
-            Step::Prepare(0, 77),
-            Step::Come(1_001_000, 0, Told::Minted),
-            Step::Take,
-            Step::Prepare(4_002_900, 12),
-            Step::Come(5_003_420, 1, Told::Authorised),
-            Step::Prepare(10_000_000, 1000),
-            Step::Come(11_010_280, 2, Told::Authorised),
-        ],
-    },
-    Case {
-        name: "a nonce at the last nanosecond of the margin",
-        units: 32,
-        slots: 64,
-        steps: &[
-            Step::Prepare(0, 77),
-            Step::Come(1_001_000, 0, Told::Minted),
-            Step::Take,
-            Step::Prepare(4_002_900, 12),
-            Step::Come(5_003_420, 1, Told::Authorised),
-            Step::Prepare(18_872_040, 1000),
-            Step::Come(20_872_560, 2, Told::Authorised),
-        ],
-    },
-    Case {
-        name: "late by a nanosecond more than the margin",
-        units: 32,
-        slots: 64,
-        steps: &[
-            Step::Prepare(0, 77),
-            Step::Come(1_001_000, 0, Told::Minted),
-            Step::Take,
-            Step::Prepare(4_002_900, 12),
-            Step::Come(5_003_420, 1, Told::Authorised),
-            Step::Prepare(18_872_040, 1000),
-            Step::Come(20_872_561, 2, Told::UnknownNonce),
-        ],
-    },
-    Case {
-        name: "overtaken by the list of the next grant",
-        units: 32,
-        slots: 64,
-        steps: &[
-            Step::Prepare(0, 77),
-            Step::Come(1_001_000, 0, Told::Minted),
-            Step::Take,
-            Step::Prepare(4_002_900, 12),
-            Step::Come(5_003_420, 1, Told::Authorised),
-            Step::Prepare(6_000_000_000, 1000),
-            Step::Come(6_001_010_400, 2, Told::Authorised),
-            Step::Prepare(6_004_000_000, 100),
-            Step::Take,
-            Step::Prepare(6_004_021_840, 12),
-            Step::Come(6_005_022_360, 4, Told::Authorised),
-            Step::Come(6_005_500_000, 3, Told::UnknownNonce),
-        ],
-    },
-    Case {
-        name: "another sender under the same flow",
-        units: 32,
-        slots: 64,
-        steps: &[
-            Step::Prepare(0, 77),
-            Step::Come(1_001_000, 0, Told::Minted),
-            Step::Take,
-            Step::Prepare(4_002_900, 12),
-            Step::Come(5_003_420, 1, Told::Authorised),
-            Step::Alien(6_000_000, 99, 1500),
-            Step::Prepare(10_000_000, 1000),
-            Step::Come(11_010_280, 2, Told::UnknownNonce),
-        ],
-    },
-    Case {
-        name: "a full cache",
-        units: 32,
-        slots: 1,
-        steps: &[
-            Step::Prepare(0, 77),
-            Step::Come(1_001_000, 0, Told::Minted),
-            Step::Take,
-            Step::Fill(5_000_000),
-            Step::Prepare(4_002_900, 12),
-            Step::Come(5_003_420, 1, Told::CacheFull),
-        ],
-    },
-    Case {
-        name: "an ask that came late, so that two grants are of one second",
-        units: 2,
-        slots: 64,
-        steps: &[
-            Step::Prepare(0, 77),
-            Step::Come(2_500_000_000, 0, Told::Minted),
-            Step::Take,
-            Step::Prepare(2_600_000_000, 1100),
-            Step::Come(2_601_000_520, 1, Told::Authorised),
-            Step::Take,
-            Step::Prepare(2_605_000_000, 1000),
-            Step::Come(2_606_000_520, 2, Told::OverN),
-        ],
-    },
-    Case {
-        name: "another capability at the pointer",
-        units: 32,
-        slots: 64,
-        steps: &[
-            Step::Prepare(0, 77),
-            Step::Come(1_001_000, 0, Told::Minted),
-            Step::Take,
-            Step::Prepare(4_002_900, 12),
-            Step::Forge(5_003_420, 1, Told::BadHash),
-        ],
-    },
-    Case {
-        name: "the list of the grant never came",
-        units: 32,
-        slots: 64,
-        steps: &[
-            Step::Prepare(0, 77),
-            Step::Come(1_001_000, 0, Told::Minted),
-            Step::Take,
-            Step::Prepare(4_002_900, 12),
-            Step::Prepare(10_000_000, 1000),
-            Step::Come(11_010_280, 2, Told::UnknownNonce),
-        ],
-    },
-];
+// What happens, each at a time in nanoseconds. `scene` begins a case: the units that are granted, and the router's
+// slots. `prepare TIME BODY`: a packet with a body is prepared. `come TIME PLACE`: a packet that was prepared, by its
+// place, comes to the router, and what becomes of it. `take`: the grant of the last ask is taken. `alien TIME NONCE
+// LENGTH`: a packet of another sender comes with the last capability. `fill TIME`: one of another flow comes. `forge
+// TIME PLACE`: a packet comes with another capability than its own.
+const CASES: &str = "\
+case the worked walk: a request, a list and a nonce alone
+scene 32 64
+prepare 0 77
+come 1001000 0 -> Minted
+take
+prepare 4002900 12
+come 5003420 1 -> Authorised
+prepare 10000000 1000
+come 11010280 2 -> Authorised
+case a nonce at the last nanosecond of the margin
+scene 32 64
+prepare 0 77
+come 1001000 0 -> Minted
+take
+prepare 4002900 12
+come 5003420 1 -> Authorised
+prepare 18872040 1000
+come 20872560 2 -> Authorised
+case late by a nanosecond more than the margin
+scene 32 64
+prepare 0 77
+come 1001000 0 -> Minted
+take
+prepare 4002900 12
+come 5003420 1 -> Authorised
+prepare 18872040 1000
+come 20872561 2 -> UnknownNonce
+case overtaken by the list of the next grant
+scene 32 64
+prepare 0 77
+come 1001000 0 -> Minted
+take
+prepare 4002900 12
+come 5003420 1 -> Authorised
+prepare 6000000000 1000
+come 6001010400 2 -> Authorised
+prepare 6004000000 100
+take
+prepare 6004021840 12
+come 6005022360 4 -> Authorised
+come 6005500000 3 -> UnknownNonce
+case another sender under the same flow
+scene 32 64
+prepare 0 77
+come 1001000 0 -> Minted
+take
+prepare 4002900 12
+come 5003420 1 -> Authorised
+alien 6000000 99 1500
+prepare 10000000 1000
+come 11010280 2 -> UnknownNonce
+case a full cache
+scene 32 1
+prepare 0 77
+come 1001000 0 -> Minted
+take
+fill 5000000
+prepare 4002900 12
+come 5003420 1 -> CacheFull
+case an ask that came late, so that two grants are of one second
+scene 2 64
+prepare 0 77
+come 2500000000 0 -> Minted
+take
+prepare 2600000000 1100
+come 2601000520 1 -> Authorised
+take
+prepare 2605000000 1000
+come 2606000520 2 -> OverN
+case another capability at the pointer
+scene 32 64
+prepare 0 77
+come 1001000 0 -> Minted
+take
+prepare 4002900 12
+forge 5003420 1 -> BadHash
+case the list of the grant never came
+scene 32 64
+prepare 0 77
+come 1001000 0 -> Minted
+take
+prepare 4002900 12
+prepare 10000000 1000
+come 11010280 2 -> UnknownNonce";
 
 /// A packet that was prepared, with its length in bytes.
 #[derive(Drop)]
@@ -252,14 +177,14 @@ impl Host {
     }
 }
 
-fn told_of(verdict: Verdict) -> Told {
+fn told_of(verdict: Verdict) -> &'static str {
     match verdict {
-        Verdict::Authorised(_) => Told::Authorised,
-        Verdict::OverN => Told::OverN,
-        Verdict::UnknownNonce => Told::UnknownNonce,
-        Verdict::CacheFull => Told::CacheFull,
-        Verdict::Superseded => Told::Superseded,
-        Verdict::Expired => Told::Other,
+        Verdict::Authorised(_) => "Authorised",
+        Verdict::OverN => "OverN",
+        Verdict::UnknownNonce => "UnknownNonce",
+        Verdict::CacheFull => "CacheFull",
+        Verdict::Superseded => "Superseded",
+        Verdict::Expired => "Other",
     }
 }
 
@@ -267,7 +192,7 @@ impl Router {
     /// The capability that the destination makes with the rights of what is minted for a flow.
     fn mint(&mut self, rt: &impl Abort, now: u64, flow: Flow, rights: Rights) -> u64 {
         assert!(rt; self.last <= now);
-        assert!(rt; now <= 1_000_000_000_000_000);
+        assert!(rt; now <= TIME_MAX);
         assert!(rt; rights.n <= 1023 && rights.t <= 63);
         self.last = now;
         let precap = self.minter.mint(Time(now), flow);
@@ -284,45 +209,52 @@ impl Router {
         rights: Rights,
         nonce: u64,
         bytes: u32,
-    ) -> Told {
+    ) -> &'static str {
         assert!(rt; self.last <= now);
-        assert!(rt; now <= 1_000_000_000_000_000);
+        assert!(rt; now <= TIME_MAX);
         assert!(rt; rights.n <= 1023 && rights.t <= 63);
         assert!(rt; 20 <= bytes && bytes <= 2048);
         self.last = now;
         let grant = match self.minter.check(Time(now), flow, cap, rights) {
             Checked::Valid(grant) => grant,
-            Checked::BadHash => return Told::BadHash,
-            Checked::Expired => return Told::Other,
+            Checked::BadHash => return "BadHash",
+            Checked::Expired => return "Other",
         };
         assert!(rt; 1 <= grant.rights.t && grant.second <= 2_000_000);
         told_of(self.cache.admit_list(Time(now), grant, nonce, bytes))
     }
 
     /// What becomes of a packet that shows a nonce alone.
-    fn name(&mut self, rt: &impl Abort, now: u64, nonce: u64, bytes: u32) -> Told {
+    fn name(&mut self, rt: &impl Abort, now: u64, nonce: u64, bytes: u32) -> &'static str {
         assert!(rt; self.last <= now);
-        assert!(rt; now <= 1_000_000_000_000_000);
+        assert!(rt; now <= TIME_MAX);
         assert!(rt; 20 <= bytes && bytes <= 2048);
         self.last = now;
         told_of(self.cache.admit_nonce(Time(now), FLOW, nonce, bytes))
     }
 
     /// What becomes of a packet that shows what a sender holds, with its capability changed in some bits.
-    fn list(&mut self, rt: &impl Abort, now: u64, held: &Held, bytes: u32, change: u64) -> Told {
+    fn list(
+        &mut self,
+        rt: &impl Abort,
+        now: u64,
+        held: &Held,
+        bytes: u32,
+        change: u64,
+    ) -> &'static str {
         let cap = held.caps.as_slice().first().copied().unwrap_or(0);
         self.show(rt, now, FLOW, cap ^ change, held.rights, held.nonce, bytes)
     }
 
     /// What becomes of a packet that was prepared, its capability changed in some bits.
-    fn come(&mut self, rt: &impl Abort, now: u64, packet: &Packet, change: u64) -> Told {
+    fn come(&mut self, rt: &impl Abort, now: u64, packet: &Packet, change: u64) -> &'static str {
         match &packet.shape {
-            Shape::Request => Told::Minted,
+            Shape::Request => "Minted",
             Shape::List(held) | Shape::Renewal(held) => {
                 self.list(rt, now, held, packet.bytes, change)
             }
             Shape::NonceOnly(nonce) => self.name(rt, now, *nonce, packet.bytes),
-            Shape::Legacy => Told::Other,
+            Shape::Legacy => "Other",
         }
     }
 }
@@ -336,8 +268,11 @@ struct Scene {
     cap: u64,
 }
 
-fn scene_of(rt: &impl Abort, alloc: Global, case: &Case) -> Result<Scene, AllocError> {
-    assert!(rt; case.slots <= 1_000_000);
+/// A scene by the line of its case.
+fn scene_of(alloc: Global, line: &str) -> Result<Scene, AllocError> {
+    let mut words = line.split(' ').skip(1);
+    let units = number(words.next(), 1023) as u32;
+    let slots = number(words.next(), 1_000_000) as u32;
     Ok(Scene {
         host: Host {
             sender: Sender::build(alloc, 1_000_000, 2_000_000_000, 1),
@@ -347,20 +282,17 @@ fn scene_of(rt: &impl Abort, alloc: Global, case: &Case) -> Result<Scene, AllocE
         },
         router: Router {
             minter: Minter::new(MASTER, 0),
-            cache: FlowCache::with_slots(alloc, case.slots, 0)?,
+            cache: FlowCache::with_slots(alloc, slots, 0)?,
             last: 0,
         },
-        rights: Rights {
-            n: case.units,
-            t: 10,
-        },
+        rights: Rights { n: units, t: 10 },
         cap: 0,
     })
 }
 
 impl Scene {
     /// A packet comes, by its place. A request and a renewal are minted for.
-    fn come(&mut self, rt: &impl Abort, now: u64, place: usize, change: u64) -> Told {
+    fn come(&mut self, rt: &impl Abort, now: u64, place: usize, change: u64) -> &'static str {
         let host = &self.host;
         let router = &mut self.router;
         let (told, asks) = match host.packets.get(place) {
@@ -368,7 +300,7 @@ impl Scene {
                 router.come(rt, now, packet, change),
                 matches!(&packet.shape, Shape::Request | Shape::Renewal(_)),
             ),
-            None => (Told::Other, false),
+            None => ("Other", false),
         };
         if asks {
             self.cap = self.router.mint(rt, now, FLOW, self.rights);
@@ -381,29 +313,31 @@ impl Scene {
         let told = self
             .router
             .show(rt, now, FLOW, self.cap, self.rights, nonce, bytes);
-        assert_eq!(rt; told, Told::Authorised);
+        assert_eq!(rt; told, "Authorised");
     }
 
     /// A packet of another flow takes a slot.
     fn fill(&mut self, rt: &impl Abort, now: u64) {
         let cap = self.router.mint(rt, now, OTHER, self.rights);
         let told = self.router.show(rt, now, OTHER, cap, self.rights, 7, 1500);
-        assert_eq!(rt; told, Told::Authorised);
+        assert_eq!(rt; told, "Authorised");
     }
 
-    fn step(&mut self, rt: &impl Abort, step: Step, name: &str) -> Result<(), AllocError> {
-        match step {
-            Step::Prepare(now, body) => self.host.prepare(rt, now, body)?,
-            Step::Come(now, place, wanted) => {
-                let told = self.come(rt, now, place, 0);
-                assert_eq!(rt; told, wanted, "{name}, at {now}");
-            }
-            Step::Take => self.host.take(rt, self.rights, self.cap),
-            Step::Alien(now, nonce, bytes) => self.alien(rt, now, nonce, bytes),
-            Step::Fill(now) => self.fill(rt, now),
-            Step::Forge(now, place, wanted) => {
-                let told = self.come(rt, now, place, 1);
-                assert_eq!(rt; told, wanted, "{name}, at {now}");
+    /// Does what a line says, and compares what becomes of it.
+    fn step(&mut self, rt: &impl Abort, line: &str) -> Result<(), AllocError> {
+        let (call, wanted) = line.split_once(" -> ").unwrap_or((line, ""));
+        let mut words = call.split(' ');
+        let kind = words.next().unwrap_or("");
+        let now = number(words.next(), TIME_MAX);
+        let next = number(words.next(), u64::from(u32::MAX));
+        match kind {
+            "prepare" => self.host.prepare(rt, now, next as u32)?,
+            "take" => self.host.take(rt, self.rights, self.cap),
+            "alien" => self.alien(rt, now, next, number(words.next(), 2048) as u32),
+            "fill" => self.fill(rt, now),
+            _ => {
+                let told = self.come(rt, now, next as usize, u64::from(kind == "forge"));
+                assert_eq!(rt; told, wanted, "{line}");
             }
         }
         Ok(())
@@ -412,11 +346,16 @@ impl Scene {
 
 #[test]
 fn no_premise_is_idle(rt: HostRuntime) -> Result<(), Fail> {
-    for case in &CASES {
-        let mut scene = scene_of(&rt, rt.alloc(), case)?;
-        for step in case.steps {
-            scene.step(&rt, *step, case.name)?;
+    let mut scene = scene_of(rt.alloc(), "")?;
+    let mut steps = 0u64;
+    for line in CASES.lines() {
+        if line.starts_with("scene") {
+            scene = scene_of(rt.alloc(), line)?;
+        } else if !line.starts_with("case") {
+            scene.step(&rt, line)?;
+            steps = steps.wrapping_add(1);
         }
     }
+    assert_eq!(rt; steps, 66);
     Ok(())
 }

@@ -1,99 +1,122 @@
 // Sequences of calls on one sender, with answers from outside.
-mod budgets;
-mod greater;
-mod times;
+ghost use Rattle.std.specs.Prelude.{◌≤◌};
 
-use budgets::BUDGETS;
-use greater::GREATER;
+mod cases;
+
+use super::{address_of, number};
+use cases::CASES;
 use std::alloc::{AllocError, Global};
 use std::process::Abort;
 use std::test::Fail;
-use times::TIMES;
-use tva_base::{Address, Caps, Rights, Time};
+use tva_base::{Caps, Rights, TIME_MAX, Time};
 use tva_sender::{Held, Sender, Shape};
 
-const ONE: u32 = 0x0a00_0101;
-
-const OTHER: u32 = 0x0a00_0202;
-
-/// The shape that is wanted: a list or a renewal with its nonce, units, seconds and capabilities.
-enum Want {
-    Request,
-    List(u64, u32, u8, &'static [u64]),
-    NonceOnly(u64),
-    Renewal(u64, u32, u8, &'static [u64]),
-    Legacy,
+/// A sender, and the time of the last call on it.
+#[derive(Drop)]
+struct Played {
+    sender: Sender,
+    last: u64,
+    ghost past: { sender.last ≤ last },
 }
 
-/// A packet at a time for a peer with a body and an offered nonce, a grant from a peer that is
-/// taken or not, or a notice.
-enum Call {
-    Prepare(u64, u32, u32, u64, Want),
-    Granted(u32, u32, u8, &'static [u64], bool),
-    Demoted(u32),
+/// The capability of a word of 16 digits.
+fn cap_of(rt: &impl Abort, word: &str) -> u64 {
+    let mut bytes = [0u8; 8];
+    assert!(rt; hex::decode_to_slice(word, &mut bytes).is_ok());
+    u64::from_be_bytes(bytes)
 }
 
-/// The rules of a sender without its version, and calls on it.
-struct Case {
-    name: &'static str,
-    margin: u64,
-    retry: u64,
-    calls: &'static [Call],
-}
-
-fn shows(held: &Held, nonce: u64, n: u32, t: u8, caps: &[u64]) -> bool {
-    held.nonce == nonce && held.rights == (Rights { n, t }) && held.caps.as_slice() == caps
-}
-
-fn is_wanted(shape: &Shape, want: &Want) -> bool {
-    match (shape, want) {
-        (Shape::Request, Want::Request) | (Shape::Legacy, Want::Legacy) => true,
-        (Shape::NonceOnly(nonce), Want::NonceOnly(wanted)) => nonce == wanted,
-        (Shape::List(held), Want::List(nonce, n, t, caps)) => shows(held, *nonce, *n, *t, *caps),
-        (Shape::Renewal(held), Want::Renewal(nonce, n, t, caps)) => {
-            shows(held, *nonce, *n, *t, *caps)
-        }
-        _ => false,
-    }
-}
-
-fn caps_of<R: Abort>(rt: &R, list: &[u64]) -> Caps {
+/// The capabilities of a word, `-` for none.
+fn caps_of(rt: &impl Abort, word: Option<&str>) -> Caps {
     let mut caps = Caps::new();
-    for cap in list {
-        assert!(rt; caps.as_slice().len() < 16);
-        caps.push(*cap);
+    let word = word.unwrap_or("");
+    if word != "-" {
+        for word in word.split(',') {
+            assert!(rt; caps.as_slice().len() < 16);
+            caps.push(cap_of(rt, word));
+        }
     }
     caps
 }
 
-fn play<R: Abort>(rt: &R, alloc: Global, version: u8, case: &Case) -> Result<(), AllocError> {
-    let name = case.name;
-    assert!(rt; case.margin <= 1_000_000_000_000);
-    assert!(rt; case.retry >= 1_000_000_000 + case.margin);
-    assert!(rt; case.retry <= 10_000_000_000_000);
-    assert!(rt; version >= 1 && version <= 2);
-    let mut sender = Sender::build(alloc, case.margin, case.retry, version);
-    let mut last = 0;
-    for call in case.calls {
-        match call {
-            Call::Prepare(now, peer, body, nonce, want) => {
-                assert!(rt; last <= *now);
-                assert!(rt; *body <= 1800);
-                assert!(rt; *nonce < 1 << 48);
-                sender.reserve(1)?;
-                last = *now;
-                let shape = sender.prepare(Time(last), Address(*peer), *body, *nonce);
-                assert!(rt; is_wanted(&shape, want), "{name}, at {last}");
-            }
-            Call::Granted(peer, n, t, caps, taken) => {
-                let caps = caps_of(rt, *caps);
-                let answer = sender.granted(Address(*peer), Rights { n: *n, t: *t }, &caps);
-                assert_eq!(rt; answer, *taken, "{name}, after {last}");
-            }
-            Call::Demoted(peer) => sender.demoted(Address(*peer)),
-        }
+/// The rights of two words.
+fn rights_of(n: Option<&str>, t: Option<&str>) -> Rights {
+    Rights {
+        n: number(n, u64::from(u32::MAX)) as u32,
+        t: number(t, 255) as u8,
     }
-    Ok(())
+}
+
+/// Whether what is shown of a grant is that of these words.
+fn is_held(rt: &impl Abort, held: &Held, wanted: &str) -> bool {
+    let mut words = wanted.split(' ').skip(1);
+    let nonce = number(words.next(), u64::MAX);
+    let rights = rights_of(words.next(), words.next());
+    let caps = caps_of(rt, words.next());
+    held.nonce == nonce && held.rights == rights && held.caps.as_slice() == caps.as_slice()
+}
+
+/// Whether a shape is that of these words: a list or a renewal has its nonce, units, seconds and capabilities.
+fn is_wanted(rt: &impl Abort, shape: &Shape, wanted: &str) -> bool {
+    match shape {
+        Shape::Request => wanted == "request",
+        Shape::Legacy => wanted == "legacy",
+        Shape::NonceOnly(nonce) => {
+            wanted.starts_with("nonce ") && number(wanted.split(' ').nth(1), u64::MAX) == *nonce
+        }
+        Shape::List(held) => wanted.starts_with("list ") && is_held(rt, held, wanted),
+        Shape::Renewal(held) => wanted.starts_with("renewal ") && is_held(rt, held, wanted),
+    }
+}
+
+/// A sender by the line of a case, on which no call was made.
+fn begun(rt: &impl Abort, alloc: Global, line: &str) -> Played {
+    let mut words = line.split(' ').skip(1);
+    let version = if words.next() == Some("1") { 1 } else { 2 };
+    let margin = number(words.next(), 1_000_000_000_000);
+    let retry = number(words.next(), 10_000_000_000_000);
+    assert!(rt; retry >= 1_000_000_000 + margin);
+    Played {
+        sender: Sender::build(alloc, margin, retry, version),
+        last: 0,
+    }
+}
+
+impl Played {
+    /// Whether a packet is prepared in that shape.
+    fn prepare(&mut self, rt: &impl Abort, call: &str, wanted: &str) -> Result<bool, AllocError> {
+        let mut words = call.split(' ').skip(1);
+        let now = number(words.next(), TIME_MAX);
+        let peer = address_of(rt, words.next());
+        let body = number(words.next(), 1800) as u32;
+        let nonce = number(words.next(), (1 << 48) - 1);
+        assert!(rt; self.last <= now);
+        self.sender.reserve(1)?;
+        self.last = now;
+        let shape = self.sender.prepare(Time(now), peer, body, nonce);
+        Ok(is_wanted(rt, &shape, wanted))
+    }
+
+    /// Whether a grant is taken or not, as is wanted.
+    fn granted(&mut self, rt: &impl Abort, call: &str, wanted: &str) -> bool {
+        let mut words = call.split(' ').skip(1);
+        let peer = address_of(rt, words.next());
+        let rights = rights_of(words.next(), words.next());
+        let caps = caps_of(rt, words.next());
+        self.sender.granted(peer, rights, &caps) == (wanted == "true")
+    }
+
+    /// Whether a call is answered as is wanted. A notice has no answer.
+    fn answers(&mut self, rt: &impl Abort, call: &str, wanted: &str) -> Result<bool, AllocError> {
+        if call.starts_with("prepare") {
+            return self.prepare(rt, call, wanted);
+        }
+        if call.starts_with("granted") {
+            return Ok(self.granted(rt, call, wanted));
+        }
+        self.sender.demoted(address_of(rt, call.split(' ').nth(1)));
+        Ok(wanted == "-")
+    }
 }
 
 fn crosses<T: Send + Sync>() {}
@@ -102,14 +125,17 @@ fn crosses<T: Send + Sync>() {}
 fn prepares_as_told(rt: HostRuntime) -> Result<(), Fail> {
     crosses::<Sender>();
     crosses::<Shape>();
-    for case in &TIMES {
-        play(&rt, rt.alloc(), 1, case)?;
+    let mut played = begun(&rt, rt.alloc(), "sender 1 0 1000000000");
+    let mut calls = 0u64;
+    for line in CASES.lines() {
+        if line.starts_with("sender") {
+            played = begun(&rt, rt.alloc(), line);
+        }
+        if let Some((call, wanted)) = line.split_once(" -> ") {
+            assert!(rt; played.answers(&rt, call, wanted)?, "{line}");
+            calls = calls.wrapping_add(1);
+        }
     }
-    for case in &BUDGETS {
-        play(&rt, rt.alloc(), 1, case)?;
-    }
-    for case in &GREATER {
-        play(&rt, rt.alloc(), 2, case)?;
-    }
+    assert_eq!(rt; calls, 177);
     Ok(())
 }

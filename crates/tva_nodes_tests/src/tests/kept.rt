@@ -45,3 +45,19 @@ fn what_is_held_is_handed_out(rt: HostRuntime) -> Result<(), Fail> {
     assert!(rt; all.take_news(Vec::new(rt.alloc())).is_none());
     Ok(())
 }
+
+/// What is poured leaves its memory to the list in which it stood.
+#[test]
+fn memory_stays_with_its_list(rt: HostRuntime) -> Result<(), Fail> {
+    let mut all: Kept<u32> = Kept::new(rt.alloc());
+    for number in 0..1000 {
+        all.push(number)?;
+    }
+    all.forget();
+    all.push(1000)?;
+    let mut poured = Vec::new(rt.alloc());
+    all.pour(&mut poured)?;
+    assert_eq!(rt; poured.as_slice(), [1000u32].as_slice());
+    assert!(rt; poured.capacity() < 1000);
+    Ok(())
+}

@@ -5,8 +5,12 @@
 //                   where stamp = be(m % 256, 1)
 //   capability(p) = p[:1] + sha(p + be(n, 2) + be(t, 1))[:7] where n <= 1023 and t <= 63,
 //                   and else p[:1] + sha(p + be(2, 1) + be(n, 4) + be(t, 1))[:7]
+ghost use Rattle.std.specs.Prelude.{◌≤◌};
+ghost use Rattle.tva_base.specs.Versions.{AreSomeRights};
+
+use hex::FromHex;
 use std::process::Abort;
-use tva_base::{Address, Flow, Grant, Rights, SECOND, TIME_MAX, Time, carries};
+use tva_base::{Address, Flow, Grant, Rights, SECOND, TIME_MAX, Time, address, carries, decimal};
 use tva_caps::{Checked, Good, KeptSecret, Minter, capability, precap_at};
 
 const COUNTING: [u8; 32] = [
@@ -14,342 +18,321 @@ const COUNTING: [u8; 32] = [
     0x10, 0x11, 0x12, 0x13, 0x14, 0x15, 0x16, 0x17, 0x18, 0x19, 0x1a, 0x1b, 0x1c, 0x1d, 0x1e, 0x1f,
 ];
 
-const ZEROS: [u8; 32] = [
-    0x00, 0x00, 0x00, 0x00, 0x00, 0x00, 0x00, 0x00, 0x00, 0x00, 0x00, 0x00, 0x00, 0x00, 0x00, 0x00,
-    0x00, 0x00, 0x00, 0x00, 0x00, 0x00, 0x00, 0x00, 0x00, 0x00, 0x00, 0x00, 0x00, 0x00, 0x00, 0x00,
-];
-
-const ONES: [u8; 32] = [
-    0xff, 0xff, 0xff, 0xff, 0xff, 0xff, 0xff, 0xff, 0xff, 0xff, 0xff, 0xff, 0xff, 0xff, 0xff, 0xff,
-    0xff, 0xff, 0xff, 0xff, 0xff, 0xff, 0xff, 0xff, 0xff, 0xff, 0xff, 0xff, 0xff, 0xff, 0xff, 0xff,
-];
-
 const MIXED: [u8; 32] = [
     0x8b, 0xad, 0xf0, 0x0d, 0xca, 0xfe, 0xba, 0xbe, 0x01, 0x23, 0x45, 0x67, 0x89, 0xab, 0xcd, 0xef,
     0x00, 0x11, 0x22, 0x33, 0x44, 0x55, 0x66, 0x77, 0x88, 0x99, 0xaa, 0xbb, 0xcc, 0xdd, 0xee, 0xff,
 ];
 
-// from 10.0.0.1 to 10.0.1.1
-const HERE: u32 = 0x0a00_0001;
+// Pre-capabilities of a master, a source, a destination and a second, and capabilities of a pre-capability and of
+// rights.
+const FORMULAS: &str = "\
+precap counting 10.0.0.1 10.0.1.1 0 -> 00d1a87cf486b23f
+precap counting 10.0.0.1 10.0.1.1 1 -> 019433762d6a3d04
+precap counting 10.0.0.1 10.0.1.1 5 -> 05c8ff0b85007534
+precap counting 10.0.0.1 10.0.1.1 127 -> 7f01eeb62d2fb0eb
+precap counting 10.0.0.1 10.0.1.1 128 -> 802a80379fb5607b
+precap counting 10.0.0.1 10.0.1.1 129 -> 81a62f0f3ed86058
+precap counting 10.0.0.1 10.0.1.1 255 -> ff388c784ff5104a
+precap counting 10.0.0.1 10.0.1.1 256 -> 0076145a91cc53bf
+precap counting 10.0.0.1 10.0.1.1 257 -> 0154b006904f060e
+precap counting 10.0.0.1 10.0.1.1 383 -> 7fc486cdbb59b35d
+precap counting 10.0.0.1 10.0.1.1 384 -> 808fc4d778092e78
+precap counting 10.0.0.1 10.0.1.1 65535 -> ff8b88b38b0a90d0
+precap counting 10.0.0.1 10.0.1.1 65536 -> 00a8fc3cd2f9d96f
+precap counting 10.0.0.1 10.0.1.1 2000000 -> 802e1f352053862f
+precap counting 10.0.1.1 10.0.0.1 5 -> 05abd75ae3751cb9
+precap zeros 0.0.0.0 0.0.0.0 0 -> 0029277b535cdf7f
+precap ones 255.255.255.255 255.255.255.255 127 -> 7f1b6910d7487b3d
+precap ones 255.255.255.255 255.255.255.255 128 -> 800463fed4a473fe
+precap mixed 192.168.1.77 8.8.4.4 1000000 -> 4051c70f4892502b
+precap mixed 8.8.4.4 192.168.1.77 1000000 -> 40edf0af83c03301
+precap zeros 10.0.0.1 10.0.1.1 5 -> 05e85cde805f3354
+precap ones 10.0.0.1 10.0.1.1 5 -> 05263ec90a676ead
+capability 05c8ff0b85007534 0 0 -> 053f7f52b797305c
+capability 05c8ff0b85007534 1 2 -> 05e5a8e67c5a90d3
+capability 05c8ff0b85007534 1 10 -> 05a306372d5b388a
+capability 05c8ff0b85007534 32 10 -> 05b1a97eb2bfd8ae
+capability 05c8ff0b85007534 10 32 -> 05562f83970715da
+capability 05c8ff0b85007534 1023 63 -> 0530dcc77f269ec5
+capability 05c8ff0b85007534 1023 0 -> 05beaa95e7e2888a
+capability 05c8ff0b85007534 0 63 -> 053e281d840a0a0a
+capability 7f01eeb62d2fb0eb 32 10 -> 7fb46d6780032db4
+capability 0000000000000000 0 0 -> 0071b6c1d53832f7
+capability 0000000000000000 32 10 -> 007ef3da6a84d010
+capability ffffffffffffffff 1023 63 -> ff9f0e4a9e51457f
+capability 0011223344556677 1 1 -> 00206510b2bfea42
+capability 8000000000000000 512 32 -> 800e6dfb1b4cd7e0
+capability 05c8ff0b85007534 1024 64 -> 050348067d6057ff
+capability 05c8ff0b85007534 1048575 127 -> 05bfef5d964227dd
+capability 05c8ff0b85007534 1023 64 -> 05533ff4e740d03b
+capability 05c8ff0b85007534 1024 63 -> 05413cc75b908ce9
+capability 05c8ff0b85007534 1056 10 -> 05e3b3579282b918
+capability 05c8ff0b85007534 0 127 -> 05e9922086a50a35
+capability 05c8ff0b85007534 32 74 -> 0509460b1fce19f6
+capability ffffffffffffffff 1048575 127 -> ff5a49916e8f9444
+capability 0000000000000000 0 64 -> 000d5f1f73951513
+capability 0011223344556677 65536 1 -> 002123a4fb7da989
+capability 7f01eeb62d2fb0eb 1 10 -> 7f5b095cc11fa77a";
 
-const THERE: u32 = 0x0a00_0101;
+// Calls on minters. `router` has a master and the offset of a clock, `new` begins a minter of it, and what has no such
+// word goes to the one before, over changes of its secret: minted in the last second of epoch 0 and shown in epoch 1;
+// then epochs 2 and 3 are skipped, and the last second of epoch 3 is shown in epoch 4. A mint has its time and flow; a
+// check the capability and rights too, and is answered the second of the grant or why there is none.
+const CALLS: &str = "\
+router counting 0
+new mint 0 10.0.0.1 10.0.1.1 -> 00d1a87cf486b23f
+new mint 999999999 10.0.0.1 10.0.1.1 -> 00d1a87cf486b23f
+new mint 1000000000 10.0.0.1 10.0.1.1 -> 019433762d6a3d04
+router counting 1
+new mint 999999999 10.0.0.1 10.0.1.1 -> 019433762d6a3d04
+router counting 127999999999
+new mint 0 10.0.0.1 10.0.1.1 -> 7f01eeb62d2fb0eb
+new mint 1 10.0.0.1 10.0.1.1 -> 802a80379fb5607b
+router mixed 1000000000000000
+new mint 1000000000000000 10.0.0.1 10.0.1.1 -> 809f8502e739deba
+router counting 0
+new check 5000000000 10.0.0.1 10.0.1.1 05a306372d5b388a 1 10 -> 5
+new check 4999999999 10.0.0.1 10.0.1.1 05a306372d5b388a 1 10 -> expired
+new check 14999999999 10.0.0.1 10.0.1.1 05a306372d5b388a 1 10 -> 5
+new check 15000000000 10.0.0.1 10.0.1.1 05a306372d5b388a 1 10 -> expired
+new check 14000000000 10.0.0.1 10.0.1.1 05a306372d5b388a 1 9 -> expired
+new check 5000000000 10.0.0.1 10.0.1.1 05a306372d5b388a 1 11 -> bad-hash
+new check 5000000000 10.0.0.1 10.0.1.1 05a306372d5b388a 2 10 -> bad-hash
+new check 5000000000 10.0.0.1 10.0.1.1 05a306372d5b388a 1 0 -> expired
+new check 261000000000 10.0.0.1 10.0.1.1 05a306372d5b388a 1 10 -> bad-hash
+new check 270000000000 10.0.0.1 10.0.1.1 05a306372d5b388a 1 10 -> bad-hash
+new check 127000000000 10.0.0.1 10.0.1.1 7f5b095cc11fa77a 1 10 -> 127
+new check 130000000000 10.0.0.1 10.0.1.1 7f5b095cc11fa77a 1 10 -> 127
+new check 136999999999 10.0.0.1 10.0.1.1 7f5b095cc11fa77a 1 10 -> 127
+new check 137000000000 10.0.0.1 10.0.1.1 7f5b095cc11fa77a 1 10 -> expired
+new check 255000000000 10.0.0.1 10.0.1.1 fa43e9a3562559b4 32 63 -> 250
+new check 256000000000 10.0.0.1 10.0.1.1 fa43e9a3562559b4 32 63 -> 250
+new check 312000000000 10.0.0.1 10.0.1.1 fa43e9a3562559b4 32 63 -> 250
+new check 313000000000 10.0.0.1 10.0.1.1 fa43e9a3562559b4 32 63 -> expired
+new check 3000000000 10.0.0.1 10.0.1.1 ff00112233445566 1 10 -> bad-hash
+new check 3000000000 10.0.0.1 10.0.1.1 ff00112233445566 1 4 -> expired
+new check 0 10.0.0.1 10.0.1.1 0000000000000000 1 1 -> bad-hash
+new check 0 10.0.0.1 10.0.1.1 0100000000000000 1 63 -> expired
+new check 5000000000 10.0.0.1 10.0.1.1 05c8ff0b85007534 1 10 -> bad-hash
+new check 5000000000 10.0.0.1 10.0.1.1 050348067d6057ff 1024 64 -> 5
+new check 68999999999 10.0.0.1 10.0.1.1 050348067d6057ff 1024 64 -> 5
+new check 69000000000 10.0.0.1 10.0.1.1 050348067d6057ff 1024 64 -> expired
+new check 5000000000 10.0.0.1 10.0.1.1 050348067d6057ff 1024 63 -> bad-hash
+new check 5000000000 10.0.0.1 10.0.1.1 050348067d6057ff 0 64 -> bad-hash
+new check 256999999999 10.0.0.1 10.0.1.1 828e7ddcfc8a2dd9 1024 127 -> 130
+new check 257000000000 10.0.0.1 10.0.1.1 828e7ddcfc8a2dd9 1024 127 -> expired
+new check 376999999999 10.0.0.1 10.0.1.1 fa306297775eb5cd 1048575 127 -> 250
+new check 377000000000 10.0.0.1 10.0.1.1 fa306297775eb5cd 1048575 127 -> expired
+new check 5000000000 10.0.0.1 10.0.1.2 05a306372d5b388a 1 10 -> bad-hash
+new check 5000000000 10.0.1.1 10.0.0.1 05a306372d5b388a 1 10 -> bad-hash
+router zeros 0
+new check 5000000000 10.0.0.1 10.0.1.1 05a306372d5b388a 1 10 -> bad-hash
+router counting 5000000000
+new check 0 10.0.0.1 10.0.1.1 05a306372d5b388a 1 10 -> 5
+router counting 2000000001
+new check 2999999999 10.0.0.1 10.0.1.1 05a306372d5b388a 1 10 -> 5
+new check 2999999998 10.0.0.1 10.0.1.1 05a306372d5b388a 1 10 -> expired
+router mixed 1000000000000000
+new check 1000000000000000 10.0.0.1 10.0.1.1 803384d739af5b3c 5 5 -> 2000000
+new check 1000000000000000 10.0.0.1 10.0.1.1 7c6860bc95d5ec82 5 5 -> 1999996
+new check 1000000000000000 10.0.0.1 10.0.1.1 7b459d9ef47421db 5 5 -> expired
+router counting 0
+new mint 127000000000 10.0.0.1 10.0.1.1 -> 7f01eeb62d2fb0eb
+check 130000000000 10.0.0.1 10.0.1.1 7f5b095cc11fa77a 1 10 -> 127
+mint 130000000000 10.0.0.1 10.0.1.1 -> 8262071e13c1f2db
+check 136999999999 10.0.0.1 10.0.1.1 7f5b095cc11fa77a 1 10 -> 127
+check 137000000000 10.0.0.1 10.0.1.1 7f5b095cc11fa77a 1 10 -> expired
+check 515000000000 10.0.0.1 10.0.1.1 ff9675c55cc666cd 1 10 -> 511
+mint 515000000000 10.0.0.1 10.0.1.1 -> 030921221b2540c1
+new mint 400000000000 10.0.0.1 10.0.1.1 -> 90092dc2a9cb9355";
 
-fn flow(src: u32, dst: u32) -> Flow {
-    Flow {
-        src: Address(src),
-        dst: Address(dst),
+// The number of a word, and 0 where it is none or above the greatest.
+fn number(word: Option<&str>, most: u64) -> u64
+    ensures { result ≤ most }
+{
+    match word {
+        Some(word) => decimal(word.as_bytes(), most).unwrap_or(0),
+        None => 0,
     }
 }
 
-#[derive(Clone, Copy)]
-enum Want {
-    Valid(u64),
-    Expired,
-    BadHash,
+// The number of 16 hexadecimal digits.
+fn digits(rt: &impl Abort, word: Option<&str>) -> u64 {
+    let bytes = <[u8; 8]>::from_hex(word.unwrap_or("")).ok();
+    u64::from_be_bytes(bytes.expect(rt, "digits"))
 }
 
-use Want::{BadHash, Expired, Valid};
+fn master_of(word: Option<&str>) -> [u8; 32] {
+    match word {
+        Some("counting") => COUNTING,
+        Some("mixed") => MIXED,
+        Some("ones") => [0xff; 32],
+        _ => [0; 32],
+    }
+}
 
-// A value that is shown to a minter: its master and offset, the time, the flow, the value, n and t.
-struct Shown {
+fn flow_of(src: Option<&str>, dst: Option<&str>) -> Flow {
+    Flow {
+        src: address(src.unwrap_or("").as_bytes()).unwrap_or(Address(0)),
+        dst: address(dst.unwrap_or("").as_bytes()).unwrap_or(Address(0)),
+    }
+}
+
+fn rights_of(rt: &impl Abort, n: Option<&str>, t: Option<&str>) -> Rights
+    ensures { AreSomeRights result }
+{
+    let rights = Rights {
+        n: number(n, u64::from(u32::MAX)) as u32,
+        t: number(t, 255) as u8,
+    };
+    assert!(rt; carries(2, rights));
+    rights
+}
+
+// What a formula gives. A pre-capability is also that of a secret that is kept.
+fn formula(rt: &impl Abort, kept: &mut KeptSecret, call: &str) -> u64 {
+    let mut words = call.split(' ');
+    if words.next() == Some("capability") {
+        let precap = digits(rt, words.next());
+        return capability(precap, rights_of(rt, words.next(), words.next()));
+    }
+    let master = master_of(words.next());
+    let flow = flow_of(words.next(), words.next());
+    let second = number(words.next(), 2_000_000);
+    let precap = precap_at(master, second, flow);
+    assert_eq!(rt;
+        kept.precap_at(&master, second, flow),
+        precap,
+        "kept, {call}"
+    );
+    precap
+}
+
+#[test]
+fn formulas_give_their_values(rt: HostRuntime) {
+    let mut kept = KeptSecret::new([0; 32]);
+    for line in FORMULAS.lines() {
+        let (call, wanted) = line.split_once(" -> ").unwrap_or(("", ""));
+        assert_eq!(rt;
+            formula(&rt, &mut kept, call),
+            digits(&rt, Some(wanted)),
+            "{line}"
+        );
+    }
+}
+
+// The master and offset of a router, a minter of it, and the time of the last call on that.
+#[derive(Drop)]
+struct Called {
     master: [u8; 32],
     offset: u64,
-    now: u64,
-    flow: Flow,
-    cap: u64,
-    rights: Rights,
+    minter: Minter,
+    last: u64,
+    ghost bounded: { offset ≤ 1000000000000000 },
+    ghost past: { minter.last ≤ last },
 }
 
-// A new minter's answer.
-fn expect(rt: &impl Abort, shown: Shown, want: Want) {
-    let Shown {
+// A new minter by the line of a router.
+fn minter_of(router: &str) -> Called {
+    let mut words = router.split(' ').skip(1);
+    let master = master_of(words.next());
+    let offset = number(words.next(), TIME_MAX);
+    Called {
         master,
         offset,
-        now,
-        flow,
-        cap,
-        rights,
-    } = shown;
-    assert!(rt; offset <= TIME_MAX);
-    assert!(rt; now <= TIME_MAX);
-    assert!(rt; carries(2, rights));
-    let mut minter = Minter::new(master, offset);
-    let answer = minter.check(Time(now), flow, cap, rights);
-    let wanted = match want {
-        Valid(second) => Checked::Valid(Grant {
-            flow,
-            rights,
-            second,
-        }),
-        Expired => Checked::Expired,
-        BadHash => Checked::BadHash,
-    };
-    assert_eq!(rt; answer, wanted, "at {now}");
+        minter: Minter::new(master, offset),
+        last: 0,
+    }
 }
 
-#[test]
-fn precaps_of_seconds(rt: HostRuntime) {
-    let cases = [
-        (COUNTING, HERE, THERE, 0, 0x00d1a87cf486b23f),
-        (COUNTING, HERE, THERE, 1, 0x019433762d6a3d04),
-        (COUNTING, HERE, THERE, 5, 0x05c8ff0b85007534),
-        (COUNTING, HERE, THERE, 127, 0x7f01eeb62d2fb0eb),
-        (COUNTING, HERE, THERE, 128, 0x802a80379fb5607b),
-        (COUNTING, HERE, THERE, 129, 0x81a62f0f3ed86058),
-        (COUNTING, HERE, THERE, 255, 0xff388c784ff5104a),
-        (COUNTING, HERE, THERE, 256, 0x0076145a91cc53bf),
-        (COUNTING, HERE, THERE, 257, 0x0154b006904f060e),
-        (COUNTING, HERE, THERE, 383, 0x7fc486cdbb59b35d),
-        (COUNTING, HERE, THERE, 384, 0x808fc4d778092e78),
-        (COUNTING, HERE, THERE, 65_535, 0xff8b88b38b0a90d0),
-        (COUNTING, HERE, THERE, 65_536, 0x00a8fc3cd2f9d96f),
-        (COUNTING, HERE, THERE, 2_000_000, 0x802e1f352053862f),
-        (COUNTING, THERE, HERE, 5, 0x05abd75ae3751cb9),
-        (ZEROS, 0x00000000, 0x00000000, 0, 0x0029277b535cdf7f),
-        (ONES, 0xffffffff, 0xffffffff, 127, 0x7f1b6910d7487b3d),
-        (ONES, 0xffffffff, 0xffffffff, 128, 0x800463fed4a473fe),
-        (MIXED, 0xc0a8014d, 0x08080404, 1_000_000, 0x4051c70f4892502b),
-        (MIXED, 0x08080404, 0xc0a8014d, 1_000_000, 0x40edf0af83c03301),
-        (ZEROS, HERE, THERE, 5, 0x05e85cde805f3354),
-        (ONES, HERE, THERE, 5, 0x05263ec90a676ead),
-    ];
-    let mut kept = KeptSecret::new(ZEROS);
-    for (master, src, dst, second, precap) in cases {
-        assert!(rt; second <= 2_000_000);
-        assert_eq!(rt;
-            precap_at(master, second, flow(src, dst)),
-            precap,
-            "at {second}"
-        );
-        assert_eq!(rt;
-            kept.precap_at(&master, second, flow(src, dst)),
-            precap,
-            "kept, at {second}"
-        );
+impl Called {
+    fn renew(&mut self) {
+        self.minter = Minter::new(self.master, self.offset);
+        self.last = 0;
+    }
+
+    // Whether a pre-capability is minted as is wanted.
+    fn mints(&mut self, rt: &impl Abort, now: u64, flow: Flow, wanted: &str) -> bool
+        requires { now ≤ 1000000000000000 }
+    {
+        assert!(rt; self.last <= now);
+        self.last = now;
+        self.minter.mint(Time(now), flow) == digits(rt, Some(wanted))
+    }
+
+    // Whether a capability with rights is found as is wanted.
+    fn finds(
+        &mut self,
+        rt: &impl Abort,
+        now: u64,
+        flow: Flow,
+        cap: u64,
+        rights: Rights,
+        wanted: &str,
+    ) -> bool
+        requires now { now ≤ 1000000000000000 }
+        requires rights { AreSomeRights rights }
+    {
+        assert!(rt; self.last <= now);
+        self.last = now;
+        let answer = self.minter.check(Time(now), flow, cap, rights);
+        match wanted {
+            "expired" => answer == Checked::Expired,
+            "bad-hash" => answer == Checked::BadHash,
+            _ => {
+                let second = number(Some(wanted), u64::MAX);
+                answer
+                    == Checked::Valid(Grant {
+                        flow,
+                        rights,
+                        second,
+                    })
+            }
+        }
+    }
+
+    // Whether a call is answered as is wanted.
+    fn answers(&mut self, rt: &impl Abort, call: &str, wanted: &str) -> bool {
+        if call.starts_with("new ") {
+            self.renew();
+        }
+        let mut words = call.strip_prefix("new ").unwrap_or(call).split(' ');
+        let kind = words.next();
+        let now = number(words.next(), TIME_MAX);
+        let flow = flow_of(words.next(), words.next());
+        if kind == Some("mint") {
+            return self.mints(rt, now, flow, wanted);
+        }
+        let cap = digits(rt, words.next());
+        let rights = rights_of(rt, words.next(), words.next());
+        self.finds(rt, now, flow, cap, rights, wanted)
     }
 }
 
 #[test]
-fn precaps_of_times(rt: HostRuntime) {
-    let cases = [
-        (COUNTING, 0, 0, 0x00d1a87cf486b23f),
-        (COUNTING, 0, 999_999_999, 0x00d1a87cf486b23f),
-        (COUNTING, 0, 1_000_000_000, 0x019433762d6a3d04),
-        (COUNTING, 1, 999_999_999, 0x019433762d6a3d04),
-        (COUNTING, 127_999_999_999, 0, 0x7f01eeb62d2fb0eb),
-        (COUNTING, 127_999_999_999, 1, 0x802a80379fb5607b),
-        (MIXED, TIME_MAX, TIME_MAX, 0x809f8502e739deba),
-    ];
-    for (master, offset, now, precap) in cases {
-        assert!(rt; offset <= TIME_MAX);
-        assert!(rt; now <= TIME_MAX);
-        let mut minter = Minter::new(master, offset);
-        assert_eq!(rt;
-            minter.mint(Time(now), flow(HERE, THERE)),
-            precap,
-            "at {now}"
-        );
+fn minters_answer_as_told(rt: HostRuntime) {
+    let mut called = minter_of("");
+    let mut calls = 0u64;
+    for line in CALLS.lines() {
+        if line.starts_with("router") {
+            called = minter_of(line);
+        }
+        if let Some((call, wanted)) = line.split_once(" -> ") {
+            assert!(rt; called.answers(&rt, call, wanted), "{line}");
+            calls = calls.wrapping_add(1);
+        }
     }
-}
-
-#[test]
-fn capabilities_of_rights(rt: HostRuntime) {
-    let cases = [
-        (0x05c8ff0b85007534, 0, 0, 0x053f7f52b797305c),
-        (0x05c8ff0b85007534, 1, 2, 0x05e5a8e67c5a90d3),
-        (0x05c8ff0b85007534, 1, 10, 0x05a306372d5b388a),
-        (0x05c8ff0b85007534, 32, 10, 0x05b1a97eb2bfd8ae),
-        (0x05c8ff0b85007534, 10, 32, 0x05562f83970715da),
-        (0x05c8ff0b85007534, 1_023, 63, 0x0530dcc77f269ec5),
-        (0x05c8ff0b85007534, 1_023, 0, 0x05beaa95e7e2888a),
-        (0x05c8ff0b85007534, 0, 63, 0x053e281d840a0a0a),
-        (0x7f01eeb62d2fb0eb, 32, 10, 0x7fb46d6780032db4),
-        (0x0000000000000000, 0, 0, 0x0071b6c1d53832f7),
-        (0x0000000000000000, 32, 10, 0x007ef3da6a84d010),
-        (0xffffffffffffffff, 1_023, 63, 0xff9f0e4a9e51457f),
-        (0x0011223344556677, 1, 1, 0x00206510b2bfea42),
-        (0x8000000000000000, 512, 32, 0x800e6dfb1b4cd7e0),
-        (0x05c8ff0b85007534, 1_024, 64, 0x050348067d6057ff),
-        (0x05c8ff0b85007534, 1_048_575, 127, 0x05bfef5d964227dd),
-        (0x05c8ff0b85007534, 1_023, 64, 0x05533ff4e740d03b),
-        (0x05c8ff0b85007534, 1_024, 63, 0x05413cc75b908ce9),
-        (0x05c8ff0b85007534, 1_056, 10, 0x05e3b3579282b918),
-        (0x05c8ff0b85007534, 0, 127, 0x05e9922086a50a35),
-        (0x05c8ff0b85007534, 32, 74, 0x0509460b1fce19f6),
-        (0xffffffffffffffff, 1_048_575, 127, 0xff5a49916e8f9444),
-        (0x0000000000000000, 0, 64, 0x000d5f1f73951513),
-        (0x0011223344556677, 65_536, 1, 0x002123a4fb7da989),
-    ];
-    for (precap, n, t, cap) in cases {
-        let rights = Rights { n, t };
-        assert!(rt; carries(2, rights));
-        assert_eq!(rt; capability(precap, rights), cap, "at {n} {t}");
-    }
-}
-
-#[test]
-fn checks_of_shown_values(rt: HostRuntime) {
-    let cases = [
-        (5_000_000_000, 0x05a306372d5b388a, 1, 10, Valid(5)),
-        (4_999_999_999, 0x05a306372d5b388a, 1, 10, Expired),
-        (14_999_999_999, 0x05a306372d5b388a, 1, 10, Valid(5)),
-        (15_000_000_000, 0x05a306372d5b388a, 1, 10, Expired),
-        (14_000_000_000, 0x05a306372d5b388a, 1, 9, Expired),
-        (5_000_000_000, 0x05a306372d5b388a, 1, 11, BadHash),
-        (5_000_000_000, 0x05a306372d5b388a, 2, 10, BadHash),
-        (5_000_000_000, 0x05a306372d5b388a, 1, 0, Expired),
-        (261_000_000_000, 0x05a306372d5b388a, 1, 10, BadHash),
-        (270_000_000_000, 0x05a306372d5b388a, 1, 10, BadHash),
-        (127_000_000_000, 0x7f5b095cc11fa77a, 1, 10, Valid(127)),
-        (130_000_000_000, 0x7f5b095cc11fa77a, 1, 10, Valid(127)),
-        (136_999_999_999, 0x7f5b095cc11fa77a, 1, 10, Valid(127)),
-        (137_000_000_000, 0x7f5b095cc11fa77a, 1, 10, Expired),
-        (255_000_000_000, 0xfa43e9a3562559b4, 32, 63, Valid(250)),
-        (256_000_000_000, 0xfa43e9a3562559b4, 32, 63, Valid(250)),
-        (312_000_000_000, 0xfa43e9a3562559b4, 32, 63, Valid(250)),
-        (313_000_000_000, 0xfa43e9a3562559b4, 32, 63, Expired),
-        (3_000_000_000, 0xff00112233445566, 1, 10, BadHash),
-        (3_000_000_000, 0xff00112233445566, 1, 4, Expired),
-        (0, 0x0000000000000000, 1, 1, BadHash),
-        (0, 0x0100000000000000, 1, 63, Expired),
-        (5_000_000_000, 0x05c8ff0b85007534, 1, 10, BadHash),
-        (5_000_000_000, 0x050348067d6057ff, 1_024, 64, Valid(5)),
-        (68_999_999_999, 0x050348067d6057ff, 1_024, 64, Valid(5)),
-        (69_000_000_000, 0x050348067d6057ff, 1_024, 64, Expired),
-        (5_000_000_000, 0x050348067d6057ff, 1_024, 63, BadHash),
-        (5_000_000_000, 0x050348067d6057ff, 0, 64, BadHash),
-        (256_999_999_999, 0x828e7ddcfc8a2dd9, 1_024, 127, Valid(130)),
-        (257_000_000_000, 0x828e7ddcfc8a2dd9, 1_024, 127, Expired),
-        (
-            376_999_999_999,
-            0xfa306297775eb5cd,
-            1_048_575,
-            127,
-            Valid(250),
-        ),
-        (377_000_000_000, 0xfa306297775eb5cd, 1_048_575, 127, Expired),
-    ];
-    for (now, cap, n, t, want) in cases {
-        let shown = Shown {
-            master: COUNTING,
-            offset: 0,
-            now,
-            flow: flow(HERE, THERE),
-            cap,
-            rights: Rights { n, t },
-        };
-        expect(&rt, shown, want);
-    }
-}
-
-#[test]
-fn checks_at_other_routers(rt: HostRuntime) {
-    let first = 0x05a306372d5b388a;
-    let ten = Rights { n: 1, t: 10 };
-    let fives = Rights { n: 5, t: 5 };
-    let cases = [
-        (ZEROS, 0, 5_000_000_000, first, ten, BadHash),
-        (COUNTING, 5_000_000_000, 0, first, ten, Valid(5)),
-        (COUNTING, 2_000_000_001, 2_999_999_999, first, ten, Valid(5)),
-        (COUNTING, 2_000_000_001, 2_999_999_998, first, ten, Expired),
-        (
-            MIXED,
-            TIME_MAX,
-            TIME_MAX,
-            0x803384d739af5b3c,
-            fives,
-            Valid(2_000_000),
-        ),
-        (
-            MIXED,
-            TIME_MAX,
-            TIME_MAX,
-            0x7c6860bc95d5ec82,
-            fives,
-            Valid(1_999_996),
-        ),
-        (
-            MIXED,
-            TIME_MAX,
-            TIME_MAX,
-            0x7b459d9ef47421db,
-            fives,
-            Expired,
-        ),
-    ];
-    for (master, offset, now, cap, rights, want) in cases {
-        let shown = Shown {
-            master,
-            offset,
-            now,
-            flow: flow(HERE, THERE),
-            cap,
-            rights,
-        };
-        expect(&rt, shown, want);
-    }
-    for (src, dst) in [(HERE, THERE + 1), (THERE, HERE)] {
-        let shown = Shown {
-            master: COUNTING,
-            offset: 0,
-            now: 5 * SECOND,
-            flow: flow(src, dst),
-            cap: first,
-            rights: ten,
-        };
-        expect(&rt, shown, BadHash);
-    }
-}
-
-#[test]
-fn one_minter_over_changes_of_the_secret(rt: HostRuntime) {
-    let flow = flow(HERE, THERE);
-    let rights = Rights { n: 1, t: 10 };
-    let mut minter = Minter::new(COUNTING, 0);
-
-    // minted in the last second of epoch 0, and shown in epoch 1
-    let minted = minter.mint(Time(127 * SECOND), flow);
-    assert_eq!(rt; minted, 0x7f01eeb62d2fb0eb);
-    let cap = capability(minted, rights);
-    assert_eq!(rt; cap, 0x7f5b095cc11fa77a);
-    let last = Checked::Valid(Grant {
-        flow,
-        rights,
-        second: 127,
-    });
-    assert_eq!(rt; minter.check(Time(130 * SECOND), flow, cap, rights), last);
-    assert_eq!(rt; minter.mint(Time(130 * SECOND), flow), 0x8262071e13c1f2db);
-    assert_eq!(rt;
-        minter.check(Time(136_999_999_999), flow, cap, rights),
-        last
-    );
-    assert_eq!(rt;
-        minter.check(Time(137 * SECOND), flow, cap, rights),
-        Checked::Expired
-    );
-
-    // epochs 2 and 3 are skipped, and the last second of epoch 3 is shown in epoch 4
-    let skipped = Checked::Valid(Grant {
-        flow,
-        rights,
-        second: 511,
-    });
-    assert_eq!(rt;
-        minter.check(Time(515 * SECOND), flow, 0xff9675c55cc666cd, rights),
-        skipped
-    );
-    assert_eq!(rt; minter.mint(Time(515 * SECOND), flow), 0x030921221b2540c1);
-
-    // a first call in epoch 3
-    let mut late = Minter::new(COUNTING, 0);
-    assert_eq!(rt; late.mint(Time(400 * SECOND), flow), 0x90092dc2a9cb9355);
+    assert_eq!(rt; calls, 56);
 }
 
 /// A capability that was found good is good again where it is known, and no other one is. Under another master
 /// nothing is known, and it is bad.
 #[test]
 fn known_capabilities_change_no_answer(rt: HostRuntime) {
-    let flow = flow(HERE, THERE);
+    let flow = Flow {
+        src: Address(0x0a00_0001),
+        dst: Address(0x0a00_0101),
+    };
     let rights = Rights { n: 1, t: 10 };
     let cap = 0x7f5b095cc11fa77a;
     let mut minter = Minter::new(COUNTING, 0);
