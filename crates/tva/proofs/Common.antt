@@ -25,7 +25,7 @@ pub use Rattle.tva_audit.specs.Audit.{IsDifference, IsAudit}
 pub use Rattle.tva_audit.specs.declared.routers.RouterSum.{RouterSum}
 pub use Rattle.tva_base.specs.declared.event.Event.{Event}
 unfoldable pub use Rattle.tva_gen.specs.Text.{generated}
-pub use Rattle.tva_laws.proofs.Whole.{read_report, read_events}
+pub use Rattle.tva_laws.proofs.Whole.{traced_report, traced_events}
 pub use Rattle.tva_lines.specs.Lines.{line_of, summary_of, text_of_totals, ended, name_of_node}
 pub use Rattle.tva_net.specs.declared.kinds.NetError.{NetError}
 pub use Rattle.tva_outside.specs.Faults.{Rose}

@@ -1,7 +1,8 @@
 -- What a replay answers, from what it found.
-use Rattle.tva.proofs.Common.{take-length, ◌≡◌, inl, inr, ℕ, ◌+◌, List, ◌++◌, length, sym, ap, ◌∙◌, subst, append-nil, refl, Err, flat_map-append, HeldByName, Load, Event, Config, IsConfig, Row, line_of, summary_of, AreRows, rows_are_one, AreEventsTo, IsReport, lines_of, report_of, totals_of, are_delayed, events_begin, same_report, read_report, Command, replay, AgreeSince, Expected, Sought, comes_to, refuses, plan_at, replays, trace_at, Answers, HasFound, Just, OfCommand, WroteAll, WroteCut, WroteLines, WrotePart, IsCut, IsFound, IsNotFound, IsReplayed, IsBegun, IsCutShort, all_of, Done, Usage, ReadFault, WriteFault, TooLarge, BadConfig, BadTrace, EventLimit, OutOfMemory}
+use Rattle.tva.proofs.Common.{take-length, ◌≡◌, inl, inr, ℕ, ◌+◌, List, ◌++◌, length, sym, ap, ◌∙◌, subst, append-nil, refl, Err, flat_map-append, HeldByName, Load, Event, Config, IsConfig, Row, line_of, summary_of, AreRows, rows_are_one, AreEventsTo, IsReport, lines_of, report_of, totals_of, are_delayed, events_begin, same_report, traced_report, Command, replay, AgreeSince, Expected, Sought, comes_to, refuses, plan_at, replays, trace_at, Answers, HasFound, Just, OfCommand, WroteAll, WroteCut, WroteLines, WrotePart, IsCut, IsFound, IsNotFound, IsReplayed, IsBegun, IsCutShort, all_of, Done, Usage, ReadFault, WriteFault, TooLarge, BadConfig, BadTrace, EventLimit, OutOfMemory}
 use Rattle.tva.specs.declared.status.Status as status
 use Rattle.tva.specs.declared.status.Status.TheVariants.{Found as Differs}
+use Rattle.tva_trace.proofs.RowsValid.{rows_are_valid}
 use Rattle.tva.proofs.Pieces.{cut_of_longer}
 
 -- the lines of the windows before the one that passes the number of events are the first of all up to its end
@@ -53,12 +54,12 @@ module _ (plan : Config) (trace : List ℕ) (rows : List Row) (valid : IsConfig 
   -- the first bytes of what is begun are those of the report
   cut_of_begun : (old new : List ℕ) (text : List ℕ) → IsBegun plan rows text → IsCut old new text → WroteCut old new (replays plan trace)
   cut_of_begun old new text begun cut =
-      let whole = read_report plan rows valid trace are in
+      let whole = traced_report plan rows valid (rows_are_valid plan trace rows are) in
       (whole.0, (rows, are, whole.1), begins_of_begun plan rows valid old new text whole.0 begun whole.1 cut)
 
   cut_at_limit : (old new : List ℕ) (text : List ℕ) → IsCutShort plan rows text → new ≡ old ++ text → WroteCut old new (replays plan trace)
   cut_at_limit old new text short written =
-      let whole = read_report plan rows valid trace are in
+      let whole = traced_report plan rows valid (rows_are_valid plan trace rows are) in
       (whole.0, (rows, are, whole.1), begins_of_short plan rows valid old new text whole.0 short whole.1 (cut_of_whole old new text written))
 
   pub answers_of_replayed : (w : Type 0) (old new : List ℕ) (s : status.Status) → IsReplayed plan rows old new w s → Answers (Just (replays plan trace)) w old new s

@@ -1,17 +1,16 @@
 -- What holds of all that words can come to: its runs keep their promises, and it is to end in just one way.
-use Rattle.tva.proofs.Common.{◌≡◌, ℕ, ◌+◌, All, Bool, true, false, cond, List, length, Result, Ok, Err, Some, None, IfSome, refl, sym, ◌∙◌, ap, subst, inl, inr, arith, Option, nat_lt, option_map, option_map_or, HeldByName, bytes_at, Config, IsConfig, Row, SaidRow, rows_of, AreRows, rows_are_one, cases_lt, Event, AreEventsTo, report_of, are_delayed, no_more_events, read_events, Finding, first_difference, first_bad, report_lines, none_of_same, RouterSum, IsDifference, generated, check_line, Command, command_of, replay, check, shim, gen, audit, Expected, writes, shows, replays, audits, refuses, Sought, followed, ◌>>=◌, within_limit, plan_at, trace_at, report_at, comes_to, Ends, EndsAudit, EndsReplay, HasReport, IsPastLimit, IsWithinLimit, wanted, HasOneEnd, Done, Usage, ReadFault, WriteFault, TooLarge, BadConfig, BadTrace, EventLimit, OutOfMemory, BadReport}
+use Rattle.tva.proofs.Common.{◌≡◌, ℕ, ◌+◌, All, Bool, true, false, cond, List, length, Result, Ok, Err, Some, None, IfSome, refl, sym, ◌∙◌, ap, subst, inl, inr, arith, Option, nat_lt, option_map, option_map_or, HeldByName, bytes_at, Config, IsConfig, Row, SaidRow, rows_of, AreRows, rows_are_one, cases_lt, Event, AreEventsTo, report_of, are_delayed, no_more_events, traced_events, Finding, first_difference, first_bad, report_lines, none_of_same, RouterSum, IsDifference, generated, check_line, Command, command_of, replay, check, shim, gen, audit, Expected, writes, shows, replays, audits, refuses, Sought, followed, ◌>>=◌, within_limit, plan_at, trace_at, report_at, comes_to, Ends, EndsAudit, EndsReplay, HasReport, IsPastLimit, IsWithinLimit, wanted, HasOneEnd, Done, Usage, ReadFault, WriteFault, TooLarge, BadConfig, BadTrace, EventLimit, OutOfMemory, BadReport}
 use Rattle.std.specs.Result.{result_map_both}
 use Rattle.tva_config_entries.specs.declared.faults.ConfigFault.{ConfigFault}
 use Rattle.tva_config.specs.Read.{read_of}
 use Rattle.tva_config.proofs.ReadValid.{read_valid}
 use Rattle.tva_trace.specs.declared.rows.TraceFault.{TraceFault}
 use Rattle.tva_trace.proofs.RowsThere.{rows_there}
-use Rattle.tva_laws.proofs.ReadRows.{rows_are_valid}
-use Rattle.tva_laws.proofs.Runs.{read_run_keeps}
+use Rattle.tva_trace.proofs.RowsValid.{rows_are_valid}
+use Rattle.tva_laws.proofs.Runs.{run_keeps}
 use Rattle.tva_laws.proofs.Given.{given}
 use Rattle.tva_laws.proofs.Steady.{honest_regular}
 use Rattle.tva_laws.proofs.FilesKept.{keeps, rows_have}
-use Rattle.tva_trace.proofs.FewFiles.{files_few}
 use Rattle.tva_audit.specs.Sums.{IsBelowLimit}
 use Rattle.tva_audit.proofs.Budgets.{sums_below}
 use Rattle.tva.specs.Network.{OfRows, EachKeepsPromises, EachTakesHonest, EachKeepsFiles, AreSumsBelow}
@@ -109,9 +108,9 @@ kept_of_each = record {
   of_text = λ text. tt;
   of_shim = λ bytes. tt;
   of_trace =
-      λ plan trace said valid read rows are until logs run node site is. read_run_keeps plan trace rows until logs valid are run node site is;
+      λ plan trace said valid read rows are until logs run node site is. run_keeps plan rows until logs valid (rows_are_valid plan trace rows are) run node site is;
   of_audit =
-      λ plan trace said report valid read good rows are until logs run node site is. read_run_keeps plan trace rows until logs valid are run node site is;
+      λ plan trace said report valid read good rows are until logs run node site is. run_keeps plan rows until logs valid (rows_are_valid plan trace rows are) run node site is;
   of_refusal = λ r. tt;
 }
 
@@ -145,9 +144,9 @@ files_of_each = record {
   of_text = λ text. tt;
   of_shim = λ bytes. tt;
   of_trace =
-      λ plan trace said valid read rows are until logs run. keeps plan rows until logs valid (files_few plan trace rows are) (rows_have plan rows (rows_are_valid plan trace rows are)) run;
+      λ plan trace said valid read rows are until logs run. keeps plan rows until logs valid (rows_are_valid plan trace rows are).files (rows_have plan rows (rows_are_valid plan trace rows are)) run;
   of_audit =
-      λ plan trace said report valid read good rows are until logs run. keeps plan rows until logs valid (files_few plan trace rows are) (rows_have plan rows (rows_are_valid plan trace rows are)) run;
+      λ plan trace said report valid read good rows are until logs run. keeps plan rows until logs valid (rows_are_valid plan trace rows are).files (rows_have plan rows (rows_are_valid plan trace rows are)) run;
   of_refusal = λ r. tt;
 }
 
@@ -166,7 +165,7 @@ below_of_each = record {
       λ plan trace said report valid read good rows are sums has.
       subst (λ (ss : List RouterSum). All IsBelowLimit ss) (sym has.each)
       (sums_below plan (plan.horizon.0 + 1) has.logs
-      (λ node site is. read_run_keeps plan trace rows (plan.horizon.0 + 1) has.logs valid are has.run node site is));
+      (λ node site is. run_keeps plan rows (plan.horizon.0 + 1) has.logs valid (rows_are_valid plan trace rows are) has.run node site is));
   of_refusal = λ r. tt;
 }
 
@@ -302,14 +301,14 @@ module _ (plan : Config) (trace : List ℕ) (rows : List Row) (valid : IsConfig 
 end_of_trace : (plan : Config) (trace : List ℕ) (said : List SaidRow) → IsConfig plan → rows_of plan trace ≡ Ok said → HasOneEnd (replays plan trace)
 end_of_trace plan trace said valid read =
     let found = rows_there plan trace said read in
-    let events = read_events plan found.0 valid trace found.1 in
+    let events = traced_events plan found.0 valid (rows_are_valid plan trace found.0 found.1) in
     one_end plan trace found.0 valid found.1 events.0 events.1
 
 end_of_audit : (plan : Config) (trace : List ℕ) (said : List SaidRow) (report : List ℕ) → IsConfig plan → rows_of plan trace ≡ Ok said → first_bad report ≡ None
     → HasOneEnd (audits plan trace report)
 end_of_audit plan trace said report valid read good =
     let found = rows_there plan trace said read in
-    let events = read_events plan found.0 valid trace found.1 in
+    let events = traced_events plan found.0 valid (rows_are_valid plan trace found.0 found.1) in
     one_audit plan trace found.0 valid found.1 report good events.0 events.1
 
 one_end_of_each : HoldsOfEach HasOneEnd

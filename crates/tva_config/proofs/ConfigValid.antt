@@ -68,8 +68,7 @@ module _ {A B : Type 0} (owner : A → ℕ) (value : A → B) where
   below k (o ∷ os) = cond (nat_lt (owner o) k) 1 0 + below k os
 
   most_at : (b : Bool) (n m : ℕ) → n ≤ m → cond b 1 0 + n ≤ suc m
-  most_at true n m more = omega arith
-  most_at false n m more = omega arith
+  most_at b n m more = grind arith
 
   below_most : (k : ℕ) (os : List A) → below k os ≤ length os
   below_most k [] = omega arith
@@ -77,13 +76,7 @@ module _ {A B : Type 0} (owner : A → ℕ) (value : A → B) where
 
   step_at : (k : ℕ) (o : A) (rest : List B) (m n : ℕ) (is less up : Bool) → (owner o == k) ≡ is → nat_lt (owner o) k ≡ less → nat_lt (owner o) (k + 1) ≡ up → length rest + m ≡ n
       → length (cons_option (cond is (Some (value o)) None) rest) + (cond less 1 0 + m) ≡ cond up 1 0 + n
-  step_at k o rest m n true true up is less up_is more = absurd (grind (arith, nat_tests))
-  step_at k o rest m n true false true is less up_is more = omega arith
-  step_at k o rest m n true false false is less up_is more = absurd (grind (arith, nat_tests))
-  step_at k o rest m n false true true is less up_is more = omega arith
-  step_at k o rest m n false true false is less up_is more = absurd (grind (arith, nat_tests))
-  step_at k o rest m n false false true is less up_is more = absurd (grind (arith, nat_tests))
-  step_at k o rest m n false false false is less up_is more = omega arith
+  step_at k o rest m n is less up is_is less_is up_is more = grind (arith, nat_tests)
 
   below_step : (k : ℕ) (os : List A) → length (filter_map (if_of k) os) + below k os ≡ below (k + 1) os
   below_step k [] = refl

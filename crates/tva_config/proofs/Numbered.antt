@@ -35,10 +35,7 @@ pairs_push old new links link n is updates single last = λ from to.
     rw (← from_is, ← to_is) single)
 
 or_last : (b any : Bool) → cond b true any ≡ (any || (b || false))
-or_last true true = refl
-or_last true false = refl
-or_last false true = refl
-or_last false false = refl
+or_last b any = grind arith
 
 -- whether one more element or one of those before it passes
 pub any_push : {A : Type 0} (test : A → Bool) (xs : List A) (x : A) → cond (test x) true (list_any test xs) ≡ list_any test (xs ++ x ∷ [])
@@ -107,12 +104,10 @@ pub all_named : (numbers : Numbers) (names : List (List ℕ)) (i : ℕ) → leng
 all_named numbers names i past is = λ j q. subst (IsNumbers numbers) (take_all i names past) is q j
 
 pub untrue : (b : Bool) → not b ≡ false → b ≡ true
-untrue true is = refl
-untrue false is = absurd (cc)
+untrue b is = grind arith
 
 pub true_not : (b : Bool) → not b ≡ true → b ≡ false
-true_not true is = absurd (cc)
-true_not false is = refl
+true_not b is = grind arith
 
 -- a new address takes a step
 pub address_continues : (hosts : List HostEntry) (i : ℕ) (h : HostEntry) (all : List HostEntry) → i < length hosts → h ≡ get_or hosts i h

@@ -1,5 +1,5 @@
 -- Plans that were made of valid entries, links and routes are valid.
-use Rattle.tva_config.proofs.Common.{◌≡◌, ◌<◌, ◌≤◌, ◌==◌, ℕ, ◌+◌, ◌^◌, ◌&&◌, ◌||◌, zero, suc, Bool, true, false, cond, List, [], ◌∷◌, map, filter, Option, Some, None, All, Contains, refl, ap, sym, ◌∙◌, subst, arith, cons_option, filter_map, list_any, and_parts, All-nil, Prefix, LinkLimits, LinkPlan, AreLinkLimits, AreDistinct, AreRising, IsPrefix, IsRouterPlan, IsHostPlan, RouterEntry, HostEntry, OwnedRoute, OwnedRestart, OwnedReroute, picked, tagged_to, incoming_of, limited_from, outgoing_of, Owned, router_plan, host_plan, is_for, if_owned, routes_at, if_restart, restarts_at, if_reroute, reroutes_at, is_restart_of, is_reroute_of, IsRouterEntry, IsHostEntry, IsLinkPlan, all_cons}
+use Rattle.tva_config.proofs.Common.{nat_tests, ◌≡◌, ◌<◌, ◌≤◌, ◌==◌, ℕ, ◌+◌, ◌^◌, ◌&&◌, ◌||◌, zero, suc, Bool, true, false, cond, List, [], ◌∷◌, map, filter, Option, Some, None, All, Contains, refl, ap, sym, ◌∙◌, subst, arith, cons_option, filter_map, list_any, and_parts, All-nil, Prefix, LinkLimits, LinkPlan, AreLinkLimits, AreDistinct, AreRising, IsPrefix, IsRouterPlan, IsHostPlan, RouterEntry, HostEntry, OwnedRoute, OwnedRestart, OwnedReroute, picked, tagged_to, incoming_of, limited_from, outgoing_of, Owned, router_plan, host_plan, is_for, if_owned, routes_at, if_restart, restarts_at, if_reroute, reroutes_at, is_restart_of, is_reroute_of, IsRouterEntry, IsHostEntry, IsLinkPlan, all_cons}
 use Rattle.std.proofs.lemmas.Bool.{eqb-true}
 use Rattle.tva_base.specs.declared.packet.Time.{Time}
 use Rattle.tva_base.specs.declared.plan.Route.{Route}
@@ -33,12 +33,10 @@ picked_distinct choice own k [] = tt
 picked_distinct choice own k (l ∷ ls) = distinct_at k (choice k l) (picked choice (k + 1) ls) (own k l) (λ x there. later choice own (k + 1) x ls there) (picked_distinct choice own (k + 1) ls)
 
 tagged_at : (k : ℕ) (l : LinkPlan) (b : Bool) (p : ℕ × ℕ) → cond b (Some (k, l.tag)) None ≡ Some p → p.0 ≡ k
-tagged_at k l true p is = let same : (k, l.tag) ≡ p = cc in ap (λ q. q.0) (sym same)
-tagged_at k l false p is = absurd (cc)
+tagged_at k l b p is = grind (arith, nat_tests)
 
 limited_at : (k : ℕ) (l : LinkPlan) (b : Bool) (p : ℕ × LinkLimits) → cond b (Some (k, l.limits)) None ≡ Some p → (k, l.limits) ≡ p
-limited_at k l true p is = cc
-limited_at k l false p is = absurd (cc)
+limited_at k l b p is = grind (arith, nat_tests)
 
 incoming_distinct : (n : ℕ) (links : List LinkPlan) → AreDistinct (links_of (incoming_of n links))
 unfolding incoming_of
@@ -152,11 +150,7 @@ turns_at : (r : OwnedReroute) (p : Prefix) (own address bits : Bool) (rest : Lis
     → map (λ c. c.0.0) (of_prefix p more) ≡ map (λ x. x.time.0) rest
     → map (λ c. c.0.0) (of_prefix p (cons_option (cond own (Some (r.time, r.owned.route.prefix, r.owned.route.link)) None) more))
     ≡ map (λ x. x.time.0) (cond (own && address && bits) (r ∷ rest) rest)
-turns_at r p false address bits rest more a b same = same
-turns_at r p true true true rest more a b same = rw (a, b) (ap (λ l. r.time.0 ∷ l) same)
-turns_at r p true true false rest more a b same = rw (a, b) same
-turns_at r p true false true rest more a b same = rw (a, b) same
-turns_at r p true false false rest more a b same = rw (a, b) same
+turns_at r p own address bits rest more a b same = grind (arith, nat_tests)
 
 turns_from : (n : ℕ) (p : Prefix) (rs : List OwnedReroute) → map (λ c. c.0.0) (of_prefix p (filter_map (if_reroute n) rs)) ≡ map (λ x. x.time.0) (filter (is_reroute_of n p) rs)
 turns_from n p [] = refl

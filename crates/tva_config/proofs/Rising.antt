@@ -35,13 +35,10 @@ rising_more test time done x rising after =
     (pushed_time time (filter test done) x (test x) rising (λ passes. below_all test time (time x) done (after passes)))
 
 late_or_last : (a b : Bool) → (a ≡ true → b ≡ true) → b ≡ (a || (b || false))
-late_or_last true b more = more refl
-late_or_last false true more = refl
-late_or_last false false more = refl
+late_or_last a b more = grind arith
 
 or_nothing : (a : Bool) → a ≡ (a || (false || false))
-or_nothing true = refl
-or_nothing false = refl
+or_nothing a = grind arith
 
 later : (last time t : ℕ) → nat_le time last ≡ false → nat_le t last ≡ true → nat_le t time ≡ true
 later last time t after late = grind (arith, nat_tests)

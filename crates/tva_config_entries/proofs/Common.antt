@@ -1,5 +1,8 @@
 -- What several proofs of this crate name, by where it stands.
-pub use Rattle.std.proofs.Common.{◌≡◌, Result, Ok, Err, IsErrAnd, ap, sym, subst, ◌∙◌, ◌<◌, ℕ, ◌^◌, zero, suc, arith, List, Bool, true, false, cond, refl, None, Some, ◌≤◌, ◌&&◌, nat_le, eqb, [], All, codes, length, ◌+◌, ◌∷◌, ◌++◌, get_or, drop, Option, append_assoc, append-nil, ◌*◌, ℤ, pos, negsuc, IfSome, option_and_then, ◌||◌, map, String, string_bytes, Bor, ◌-◌, ◌/◌, nat_lt, Vec, BTreeMap, Global, Contains, inl, inr, length-append, IsTrue, take}
+pub use Rattle.std.proofs.Common.{IfOk, fold, rules, ◌≡◌, Result, Ok, Err, IsErrAnd, ap, sym, subst, ◌∙◌, ◌<◌, ℕ, ◌^◌, zero, suc, arith, List, Bool, true, false, cond, refl, None, Some, ◌≤◌, ◌&&◌, nat_le, eqb, [], All, codes, length, ◌+◌, ◌∷◌, ◌++◌, get_or, drop, Option, append_assoc, append-nil, ◌*◌, ℤ, pos, negsuc, IfSome, option_and_then, ◌||◌, map, String, string_bytes, Bor, ◌-◌, ◌/◌, nat_lt, Vec, BTreeMap, Global, Contains, inl, inr, length-append, IsTrue, take}
+pub use Rattle.std.proofs.Math.Nat.{add-zero}
+pub use Rattle.std.proofs.lemmas.Bool.Decides.{nat_tests}
+pub use Rattle.std.proofs.lemmas.Grind.{common_steps, pow_more}
 pub use Rattle.std.proofs.lemmas.Bool.{and_parts, leb-true, ltb-false}
 pub use Rattle.std.proofs.lemmas.List.{at_drop_more, length_push, at_drop_all, length-map, drop_all, map_push}
 pub use Rattle.std.proofs.lemmas.List.Elements.{All-nil, Contains-append_cases, All-append}

@@ -1,22 +1,12 @@
 -- A prefix that was read has at most 32 bits, and zeros past them.
-use Rattle.tva_config_entries.proofs.Common.{◌≡◌, ◌≤◌, ℕ, ◌-◌, ◌^◌, ◌/◌, Bool, true, false, ◌&&◌, nat_le, cond, List, Option, Some, None, IfSome, refl, and_parts, leb-true, Address, parted, address_of, kept, prefix_of, IsPrefix}
+use Rattle.tva_config_entries.proofs.Common.{◌≤◌, ℕ, ◌-◌, ◌^◌, ◌/◌, List, Option, Some, None, IfSome, arith, nat_tests, Address, address_of, parted, kept, prefix_of, IsPrefix}
 use Rattle.std.proofs.Math.Nat.{mul-mod_left}
-use Rattle.tva_base.specs.Decimal.{is_decimal, number_in, decimal_of, has_leading_zero, plain_decimal_of}
+use Rattle.tva_base.specs.Decimal.{decimal_of, plain_decimal_of}
 use Rattle.tva_base.specs.Options.{◌>>=◌}
-
-within_at : (b : Bool) (n max : ℕ) → (b ≡ true → n ≤ max) → IfSome (cond b (Some n) None) (λ k. k ≤ max)
-within_at true n max within = within refl
-within_at false n max within = tt
-
-plain_at : (b : Bool) (o : Option ℕ) (max : ℕ) → IfSome o (λ k. k ≤ max) → IfSome (cond b None o) (λ k. k ≤ max)
-plain_at true o max within = tt
-plain_at false o max within = within
 
 pub decimal_within : (text : List ℕ) (max : ℕ) → IfSome (plain_decimal_of text max) (λ k. k ≤ max)
 unfolding plain_decimal_of decimal_of
-decimal_within text max =
-    plain_at (has_leading_zero text) _ max (within_at (is_decimal text && nat_le (number_in text) max) (number_in text) max
-    (λ h. let (_, small) = and_parts (is_decimal text) (nat_le (number_in text) max) h in leb-true (number_in text) max small))
+decimal_within text max = grind (arith, nat_tests)
 
 pub kept_valid : (a : Address) (bits : ℕ) → bits ≤ 32 → IsPrefix (record { address = kept a bits; bits = bits })
 kept_valid a bits few = record { bits = few; zeros = mul-mod_left (a.0 / 2 ^ (32 - bits)) (2 ^ (32 - bits)) }

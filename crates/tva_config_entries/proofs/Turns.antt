@@ -1,5 +1,5 @@
 -- What steps in turn keep and leave.
-use Rattle.tva_config_entries.proofs.Common.{◌≡◌, ◌<◌, ◌+◌, ℕ, zero, suc, Bool, true, false, List, [], ◌∷◌, ◌++◌, length, get_or, map, Ok, Err, Option, Some, None, All, Contains, inl, inr, refl, ap, sym, ◌∙◌, subst, append_assoc, append-nil, arith, length-append, Contains-append_cases, All-append, All-nil, AreDistinct, ConfigFault, Read, ◌>>=◌, unless, found, in_turn}
+use Rattle.tva_config_entries.proofs.Common.{◌≡◌, ◌<◌, ◌+◌, ℕ, zero, suc, Bool, true, false, List, [], ◌∷◌, ◌++◌, length, get_or, map, Ok, Err, Option, Some, None, All, Contains, inl, inr, refl, ap, sym, ◌∙◌, subst, append_assoc, append-nil, arith, length-append, Contains-append_cases, All-append, All-nil, AreDistinct, ConfigFault, Read, ◌>>=◌, unless, found, in_turn, IfOk}
 
 -- the first of two steps that gave a value
 pub first_gave : {A B : Type 0} (r : Read A) (next : A → Read B) (y : B) → (r >>= next) ≡ Ok y → (x : A) × (r ≡ Ok x) × (next x ≡ Ok y)
@@ -11,6 +11,11 @@ pub when_gave : {A B : Type 0} (P : B → Type 0) (r : Read A) (next : A → Rea
     → (r >>= next) ≡ Ok y → ((x : A) → r ≡ Ok x → next x ≡ Ok y → P y) → P y
 when_gave P (Ok x) next y gave go = go x refl gave
 when_gave P (Err fault) next y gave go = absurd (cc)
+
+-- what is known of a value that a step gave
+pub if_gave : {A : Type 0} (r : Read A) (P : A → Type 0) → ((x : A) → r ≡ Ok x → P x) → IfOk r P
+if_gave (Ok x) P known = known x refl
+if_gave (Err fault) P known = tt
 
 -- what a step gave is one value
 abbrev is_given : {A : Type 0} → A → Read A → Type 0

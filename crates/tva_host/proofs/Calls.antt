@@ -1,13 +1,12 @@
 -- The history and the times of one more call.
-use Rattle.tva_host.proofs.Common.{◌≡◌, ℕ, ◌≤◌, List, [], ◌∷◌, ◌++◌, fold, refl, sym, subst, arith, HostPlan, History, beginning, Call, Intended, Injected, Received, after_call, history_of, last_time, NeverFall, HostData, Keeps, StandsFor}
+use Rattle.tva_host.proofs.Common.{◌≡◌, ℕ, ◌≤◌, List, [], ◌∷◌, ◌++◌, fold, refl, arith, HostPlan, History, beginning, Call, Intended, Injected, Received, after_call, history_of, last_time, NeverFall, HostData, Keeps, StandsFor, nat_tests, common_steps}
 
 -- the history after these calls, which come after those that made it
 abbrev pub history_from : HostPlan → History → List Call → History
 history_from plan h calls = fold (after_call plan) h calls
 
 pub history_from-push : (plan : HostPlan) (h : History) (cs : List Call) (c : Call) → history_from plan h (cs ++ c ∷ []) ≡ after_call plan (history_from plan h cs) c
-history_from-push plan h [] c = refl
-history_from-push plan h (d ∷ ds) c = history_from-push plan (after_call plan h d) ds c
+history_from-push plan h cs c = grind (arith, common_steps, nat_tests)
 
 pub history_of-push : (plan : HostPlan) (cs : List Call) (c : Call) → history_of plan (cs ++ c ∷ []) ≡ after_call plan (history_of plan cs) c
 history_of-push plan cs c = history_from-push plan beginning cs c
@@ -31,16 +30,8 @@ never_fall-push from (Received now packet above ∷ ds) c k l = (k.0, never_fall
 -- a host stands for its calls with one more
 pub stands-push : (v w : HostData) (cs : List Call) (c : Call) → StandsFor v cs → w.plan ≡ v.plan → NeverFall (last_time 0 cs) (c ∷ []) → time_after (last_time 0 cs) c ≤ w.last
     → Keeps w (after_call v.plan (history_of v.plan cs) c) → StandsFor w (cs ++ c ∷ [])
-stands-push v w cs c s plan order past keeps = record {
-  order = never_fall-push 0 cs c s.order order;
-  past = rw (last_time-push 0 cs c) past;
-  keeps = subst (λ (p : HostPlan). Keeps w (history_of p (cs ++ c ∷ []))) (sym plan) (rw (history_of-push v.plan cs c) keeps);
-}
+stands-push v w cs c s plan order past keeps = grind (arith, never_fall-push, last_time-push, history_of-push)
 
 -- and for the same calls at a later time
 pub stands-later : (v w : HostData) (cs : List Call) → StandsFor v cs → w.plan ≡ v.plan → v.last ≤ w.last → Keeps w (history_of v.plan cs) → StandsFor w cs
-stands-later v w cs s plan later keeps = record {
-  order = s.order;
-  past = omega (arith, s.past, later);
-  keeps = subst (λ (p : HostPlan). Keeps w (history_of p cs)) (sym plan) keeps;
-}
+stands-later v w cs s plan later keeps = grind arith

@@ -32,3 +32,6 @@ pub use Rattle.tva_shim.specs.Shims.{IsReturn, ShimData}
 pub use Rattle.tva_shim.specs.Shows.{back_in}
 pub use Rattle.tva_shim.specs.declared.kinds.ReturnInfo.{ReturnInfo}
 pub use Rattle.tva_shim.specs.declared.packets.Carried.{Carried}
+pub use Rattle.std.proofs.lemmas.Bool.Decides.{nat_tests}
+pub use Rattle.std.proofs.lemmas.Grind.{common_steps}
+pub use Rattle.std.proofs.Common.{rules}

@@ -1,8 +1,6 @@
 -- What a host makes of a packet is by the definitions.
-use Rattle.tva_host.proofs.Common.{◌≡◌, ℕ, Bool, List, ◌++◌, ◌∷◌, [], true, false, not, eqb, Option, Some, None, append-nil, refl, sym, ap, subst, ⊎_elim, ◌∙◌, cases_Bool, false≢true, is_some, Address, Rights, Upper, HostPlan, Carried, PacketData, Deed, Decided, grant_decision, is_granted, lets_in, was_sent_to, PolicyPlan, ReturnInfo, Made, Receipt, History, HostData, Keeps, back_in, ClaimData, became_of, what_came, reply_of, claim_in, notice_for, granted, decided_on, answer_to_claim, brought_by, after_answer, after_reply, before_reply, stray, received, receipt_of, after_receipt}
-use Rattle.tva_shim.specs.declared.packets.Carried.TheVariants as carried
+use Rattle.tva_host.proofs.Common.{◌≡◌, ℕ, Bool, List, ◌++◌, ◌∷◌, [], true, false, not, eqb, Option, Some, None, append-nil, refl, sym, ap, subst, ◌∙◌, cases_Bool, is_some, Address, Rights, Upper, HostPlan, Carried, PacketData, Deed, Decided, grant_decision, is_granted, lets_in, was_sent_to, PolicyPlan, ReturnInfo, Made, Receipt, History, HostData, Keeps, back_in, ClaimData, became_of, what_came, reply_of, claim_in, notice_for, granted, decided_on, answer_to_claim, brought_by, after_answer, after_reply, before_reply, stray, received, receipt_of, after_receipt, arith}
 use Rattle.tva_base.specs.declared.plan.PolicyKind.{PolicyKind}
-use Rattle.tva_base.specs.declared.plan.PolicyKind.TheVariants.{DenyAll, Client, Server}
 use Rattle.tva_policy.specs.Notes as policy
 use Rattle.tva_base.specs.declared.event.WhatKind.{WhatKind}
 use Rattle.tva_base.specs.declared.event.BackKind.{BackKind}
@@ -13,17 +11,11 @@ pub keeps-answer : (v : HostData) (notes : policy.Notes) (h : History) (src : Ad
     → Keeps v h → Some claim ≡ claim_in carries → rights ≡ grant_decision v.plan.policy h.deeds src claim.tags
     → policy.StandsFor v.plan.policy notes (h.deeds ++ Decided src (is_some rights) ∷ [])
     → Keeps (noted notes v) (after_answer v.plan src carries h)
-keeps-answer v notes h src carries claim rights k claims decides more =
-    let decided : policy.StandsFor v.plan.policy notes (h.deeds ++ Decided src (is_some (grant_decision v.plan.policy h.deeds src claim.tags)) ∷ []) =
-    subst (λ (o : Option Rights). policy.StandsFor v.plan.policy notes (h.deeds ++ Decided src (is_some o) ∷ [])) decides more in
-    subst (λ (o : Option ClaimData). Keeps (noted notes v) (record h { deeds = h.deeds ++ decided_on v.plan h.deeds src o })) claims
-    (keeps-deed v notes (Decided src (is_some (grant_decision v.plan.policy h.deeds src claim.tags))) h k decided)
+keeps-answer v notes h src carries claim rights k claims decides more = grind (arith, is_some, keeps-deed)
 
 -- a policy of a kind that lets nobody in grants nothing
 let_in_never : (kind : PolicyKind) (sent : Bool) → not (lets_in kind true) ≡ true → lets_in kind sent ≡ false
-let_in_never DenyAll sent e = refl
-let_in_never Client sent e = absurd (false≢true e)
-let_in_never Server sent e = absurd (false≢true e)
+let_in_never kind sent e = grind arith
 
 grants-nobody : (plan : PolicyPlan) (deeds : List Deed) (src : Address) (tags : List ℕ) → not (lets_in plan.kind true) ≡ true → None ≡ grant_decision plan deeds src tags
 unfolding is_granted
@@ -31,12 +23,7 @@ grants-nobody plan deeds src tags e = rw (let_in_never plan.kind (was_sent_to de
 
 -- what claims a grant is answered with no notice
 claims-unnoticed : (carries : Carried) (claim : ClaimData) → claim_in carries ≡ Some claim → notice_for carries ≡ None
-claims-unnoticed carried.Nothing claim e = refl
-claims-unnoticed (carried.Malformed m) claim e = refl
-claims-unnoticed (carried.Shim shim) claim e = ⊎_elim
-    (λ yes. absurd (cc (rw yes at e)))
-    (λ no. rw no refl)
-    (cases_Bool shim.demoted)
+claims-unnoticed carries claim e = grind (arith, cases_Bool)
 
 -- so the answer is the notice alone
 pub answer-nobody : (plan : HostPlan) (deeds : List Deed) (src : Address) (carries : Carried) → not (lets_in plan.policy.kind true) ≡ true → notice_for carries ≡ answer_to_claim plan deeds src carries (claim_in carries)
@@ -81,7 +68,4 @@ pub receipt-received : (node : ℕ) (plan : HostPlan) (h : History) (now : ℕ) 
     → what ≡ what_came carries → back ≡ became_of plan.version h.contacts src (back_in carries) → answer ≡ brought_by above (answer_to_claim plan h.deeds src carries (claim_in carries))
     → reply ≡ reply_of node plan (before_reply plan src carries h) now src answer above
     → told what back reply ≡ received node plan h now src carries above
-receipt-received node plan h now src carries what back answer above reply is became answers replies =
-    ap (λ (w : WhatKind). told w back reply) is
-    ∙ ap (λ (b : BackKind). told (what_came carries) b reply) became
-    ∙ ap (told (what_came carries) (became_of plan.version h.contacts src (back_in carries))) (replies ∙ ap (λ (o : Option ReturnInfo). reply_of node plan (before_reply plan src carries h) now src o above) answers)
+receipt-received node plan h now src carries what back answer above reply is became answers replies = cc

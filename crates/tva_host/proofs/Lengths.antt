@@ -3,15 +3,10 @@ use Rattle.tva_host.proofs.Common.{◌≡◌, ℕ, ◌+◌, false, length, refl,
 use Rattle.tva_shim.specs.declared.kinds.ReturnInfo.TheVariants as backs
 use Rattle.tva_shim.specs.declared.packets.Carried.TheVariants as carried
 use Rattle.tva_shim.proofs.Sizes.{length-layout}
-use Rattle.tva_sender.specs.declared.shape.Shape.TheVariants as shapes
 
 shim-length : (version : ℕ) (shape : Shape) (back : ReturnInfo) (payload : ℕ) → is_legacy shape ≡ false
     → 20 + length (layout (shim_of version shape back)) + payload ≡ length_of version shape (payload + return_size version back)
-shim-length version shapes.Request back payload counted = omega (arith, length-layout (shim_of version shapes.Request back))
-shim-length version (shapes.List held) back payload counted = omega (arith, length-layout (shim_of version (shapes.List held) back))
-shim-length version (shapes.NonceOnly nonce) back payload counted = omega (arith, length-layout (shim_of version (shapes.NonceOnly nonce) back))
-shim-length version (shapes.Renewal held) back payload counted = omega (arith, length-layout (shim_of version (shapes.Renewal held) back))
-shim-length version shapes.Legacy back payload counted = cc
+shim-length version shape back payload counted = grind (arith, length-layout)
 
 pub made-length : (version : ℕ) (shape : Shape) (back : ReturnInfo) (p : PacketData) → is_legacy shape ≡ false → p.carried ≡ carried.Shim (shim_of version shape back)
     → packet_length p ≡ length_of version shape (p.payload + return_size version back)

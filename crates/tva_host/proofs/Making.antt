@@ -1,5 +1,5 @@
 -- The packets that were made are those of the definitions.
-use Rattle.tva_host.proofs.Common.{◌≡◌, ℕ, Option, Some, ap, sym, subst, ◌∙◌, Address, Upper, HostPlan, ReturnInfo, Carried, PacketData, upper_size, Sent, Shape, Made, History, with_deed, with_packet, with_prepared, HostData, Keeps, next_with, next_shape, next_made, with_made, kind_shown_of, carried_by, shim_of, intended, after_intending, body_of, reply_of, after_reply}
+use Rattle.tva_host.proofs.Common.{◌≡◌, ℕ, Option, Some, ap, ◌∙◌, Address, Upper, HostPlan, ReturnInfo, Carried, PacketData, upper_size, Sent, Shape, Made, History, with_deed, with_packet, with_prepared, HostData, Keeps, next_with, next_shape, next_made, kind_shown_of, carried_by, shim_of, intended, after_intending, body_of, reply_of, after_reply, arith}
 use Rattle.tva_base.specs.declared.packet.Flow.{Flow}
 use Rattle.tva_base.specs.declared.event.ShapeKind.{ShapeKind}
 use Rattle.tva_shim.specs.declared.packets.Carried.TheVariants as carried
@@ -11,9 +11,7 @@ made packet shape = record { packet = packet; shape = shape }
 pub made-next : (node : ℕ) (plan : HostPlan) (h : History) (dst : Address) (payload : ℕ) (shape : Shape) (n : ℕ) (p : HostPlan) (flow : Flow) (carries : Carried) (above : Upper) (packet : PacketData) (kind : ShapeKind)
     → n ≡ node → p ≡ plan → flow ≡ record { src = p.address; dst = dst } → packet ≡ next_with n h flow payload carries above → kind ≡ kind_shown_of shape
     → made packet kind ≡ next_made node plan h dst payload carries above shape
-made-next node plan h dst payload shape n p flow carries above packet kind same here to is told =
-    let from : Flow → Made = λ f. made (next_with node h f payload carries above) (kind_shown_of shape) in
-    ap (λ q. made q kind) (is ∙ ap (λ (m : ℕ). next_with m h flow payload carries above) same) ∙ ap (made (next_with node h flow payload carries above)) told ∙ ap from (to ∙ ap (λ (q : HostPlan). record { src = q.address; dst = dst }) here)
+made-next node plan h dst payload shape n p flow carries above packet kind same here to is told = cc
 
 -- the shape by the plan and the size of the body
 shape-by : (plan p : HostPlan) (h : History) (now : ℕ) (dst : Address) (body size : ℕ) (shape : Shape) → p ≡ plan → body ≡ size → shape ≡ next_shape p h now dst body → shape ≡ next_shape plan h now dst size
@@ -23,30 +21,20 @@ shape-by plan p h now dst body size shape here sized is = is ∙ ap (λ (q : Hos
 pub made-intended : (node : ℕ) (plan p : HostPlan) (h : History) (now : ℕ) (dst : Address) (payload body : ℕ) (shape : Shape) (carries : Carried) (above : Upper) (m : Made)
     → p ≡ plan → body ≡ payload → shape ≡ next_shape p h now dst body → carries ≡ carried_by plan.version shape → m ≡ next_made node plan h dst payload carries above shape → m ≡ intended node plan h now dst payload above
 unfolding intended
-made-intended node plan p h now dst payload body shape carries above m here size e f is =
-    is ∙ ap (λ (c : Carried). next_made node plan h dst payload c above shape) f ∙ ap (λ (s : Shape). next_made node plan h dst payload (carried_by plan.version s) above s) (shape-by plan p h now dst body payload shape here size e)
+made-intended node plan p h now dst payload body shape carries above m here size e f is = cc
 
 pub keeps-intended : (plan p : HostPlan) (v : HostData) (h : History) (now : ℕ) (dst : Address) (payload body : ℕ) (shape : Shape)
     → p ≡ plan → body ≡ payload → shape ≡ next_shape p h now dst body → Keeps v (with_packet (with_prepared p.version now dst shape body (with_deed (Sent dst) h))) → Keeps v (after_intending plan h now dst payload)
 unfolding after_intending
-keeps-intended plan p v h now dst payload body shape here size e was =
-    let k : Keeps v (with_packet (with_prepared plan.version now dst shape body (with_deed (Sent dst) h))) =
-    subst (λ (q : HostPlan). Keeps v (with_packet (with_prepared q.version now dst shape body (with_deed (Sent dst) h)))) here was in
-    let sized : Keeps v (with_packet (with_prepared plan.version now dst shape payload (with_deed (Sent dst) h))) = subst (λ b. Keeps v (with_packet (with_prepared plan.version now dst shape b (with_deed (Sent dst) h)))) size k in
-    subst (λ (x : Shape). Keeps v (with_packet (with_prepared plan.version now dst x payload (with_deed (Sent dst) h)))) (shape-by plan p h now dst body payload shape here size e) sized
+keeps-intended plan p v h now dst payload body shape here size e was = grind (arith, shape-by)
 
 -- a reply, by its return info and its shape
 pub reply-made : (node : ℕ) (plan : HostPlan) (h : History) (now : ℕ) (src : Address) (answer : Option ReturnInfo) (back : ReturnInfo) (above : Upper) (body : ℕ) (shape : Shape) (m : Made)
     → answer ≡ Some back → body ≡ body_of plan.version back above → shape ≡ next_shape plan h now src body → m ≡ next_made node plan h src (upper_size above) (carried.Shim (shim_of plan.version shape back)) above shape
     → Some m ≡ reply_of node plan h now src answer above
-reply-made node plan h now src answer back above body shape m there size e is =
-    let whole = e ∙ ap (next_shape plan h now src) size in
-    ap Some (is ∙ ap (λ (s : Shape). next_made node plan h src (upper_size above) (carried.Shim (shim_of plan.version s back)) above s) whole) ∙ ap (λ (o : Option ReturnInfo). reply_of node plan h now src o above) (sym there)
+reply-made node plan h now src answer back above body shape m there size e is = cc
 
 pub keeps-reply : (plan : HostPlan) (v : HostData) (h : History) (now : ℕ) (src : Address) (answer : Option ReturnInfo) (back : ReturnInfo) (above : Upper) (body : ℕ) (shape : Shape)
     → answer ≡ Some back → body ≡ body_of plan.version back above → shape ≡ next_shape plan h now src body → Keeps v (with_packet (with_prepared plan.version now src shape body h))
     → Keeps v (after_reply plan now src answer above h)
-keeps-reply plan v h now src answer back above body shape there size e k =
-    let sized : Keeps v (with_packet (with_prepared plan.version now src shape (body_of plan.version back above) h)) = subst (λ b. Keeps v (with_packet (with_prepared plan.version now src shape b h))) size k in
-    let shaped : Keeps v (with_made plan now src (body_of plan.version back above) h) = subst (λ (x : Shape). Keeps v (with_packet (with_prepared plan.version now src x (body_of plan.version back above) h))) (e ∙ ap (next_shape plan h now src) size) sized in
-    subst (λ (o : Option ReturnInfo). Keeps v (after_reply plan now src o above h)) (sym there) shaped
+keeps-reply plan v h now src answer back above body shape there size e k = grind arith

@@ -63,8 +63,7 @@ receiving plan h now p above k =
 
 pub played-from : (plan : HostPlan) (from : ℕ) (h : History) (cs : List Call) → NeverFall from cs → ArePlayed plan from h.contacts → ArePlayed plan (last_time from cs) (history_from plan h cs).contacts
 played-from plan from h [] order k = k
-played-from plan from h (Intended now dst payload above ∷ cs) order k =
-    played-from plan now (after_call plan h (Intended now dst payload above)) cs order.1 (intending plan h now dst payload (later plan from now h.contacts order.0 k))
+played-from plan from h (Intended now dst payload above ∷ cs) order k = grind (arith, intending, played-from plan now (after_call plan h (Intended now dst payload above)) cs order.1 (intending plan h now dst payload (later plan from now h.contacts order.0 k)))
 played-from plan from h (Injected flow payload carries ∷ cs) order k = played-from plan from (after_call plan h (Injected flow payload carries)) cs order k
 played-from plan from h (Received now p above ∷ cs) order k =
     played-from plan now (after_call plan h (Received now p above)) cs order.1 (receiving plan h now p above (later plan from now h.contacts order.0 k))

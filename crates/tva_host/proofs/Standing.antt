@@ -1,10 +1,9 @@
 -- The history after one more deed, contact or packet.
-use Rattle.tva_host.proofs.Common.{◌≡◌, ℕ, ◌+◌, ◌%◌, ◌^◌, ◌<◌, ◌≤◌, min, Bool, true, false, cond, List, [], ◌∷◌, ◌++◌, Option, Some, None, Result, Ok, Err, OnOk, OnErr, IfOk, append-nil, ap, sym, subst, ◌∙◌, arith, IfSome, mod-add-mod, Address, Rights, PolicyPlan, ReturnInfo, IsReturn, Deed, Sent, grant_decision, is_granted, Shape, Contact, Prepared, Taken, takes, length_of, IsShowableContact, AreShowable, of_peer, History, beginning, with_deed, with_packet, with_prepared, HostData, host_data, Keeps, HasHistory}
+use Rattle.tva_host.proofs.Common.{◌≡◌, ℕ, ◌+◌, ◌%◌, ◌^◌, ◌<◌, ◌≤◌, min, Bool, cond, List, [], ◌∷◌, ◌++◌, Option, Result, Ok, Err, OnOk, OnErr, IfOk, append-nil, ap, sym, subst, ◌∙◌, arith, IfSome, mod-add-mod, Address, Rights, PolicyPlan, ReturnInfo, IsReturn, Deed, Sent, grant_decision, Shape, Contact, Prepared, Taken, takes, length_of, IsShowableContact, AreShowable, of_peer, History, beginning, with_deed, with_packet, with_prepared, HostData, host_data, Keeps, HasHistory}
 use Rattle.tva_base.specs.Plan.{IsHostPlan}
 use Rattle.tva_base.specs.Versions.{AreRights, AreSomeRights, IsVersion}
 use Rattle.tva_base.proofs.Widths.{some_rights}
 use Rattle.tva_sender.proofs.Taking.{taken_fits}
-use Rattle.tva_shim.specs.declared.kinds.ReturnInfo.TheVariants as backs
 use Rattle.tva_policy.specs.Notes as policy
 use Rattle.tva_sender.specs.Book as sender
 
@@ -39,47 +38,17 @@ abbrev pub booked : ℕ → sender.Book → HostData → HostData
 booked offered book v = host_data v.node v.plan v.next offered v.last v.policy book
 
 pub keeps-timed : (v : HostData) (last : ℕ) (h : History) → Keeps v h → Keeps (timed last v) h
-keeps-timed v last h k = record {
-  next = k.next;
-  offered = k.offered;
-  margin = k.margin;
-  retry = k.retry;
-  version = k.version;
-  policy = k.policy;
-  sender = k.sender;
-}
+keeps-timed v last h k = grind arith
 
 pub keeps-packet : (v : HostData) (h : History) → Keeps v h → Keeps (numbered (min (v.next + 1) 18446744073709551615) v) (with_packet h)
-keeps-packet v h k = record {
-  next = ap (λ n. min (n + 1) 18446744073709551615) k.next ∙ one_more h.made;
-  offered = k.offered;
-  margin = k.margin;
-  retry = k.retry;
-  version = k.version;
-  policy = k.policy;
-  sender = k.sender;
-}
+keeps-packet v h k = grind arith
 
 pub has-packet : (v : HostData) → HasHistory v → HasHistory (numbered (min (v.next + 1) 18446744073709551615) v)
-has-packet v has = record {
-  history = with_packet has.history;
-  valid = has.valid;
-  keeps = keeps-packet v has.history has.keeps;
-  showable = has.showable;
-  past = has.past;
-}
+has-packet v has = grind (arith, keeps-packet)
 
 pub keeps-deed : (v : HostData) (notes : policy.Notes) (deed : Deed) (h : History) → Keeps v h
     → policy.StandsFor v.plan.policy notes (h.deeds ++ deed ∷ []) → Keeps (noted notes v) (with_deed deed h)
-keeps-deed v notes deed h k more = record {
-  next = k.next;
-  offered = k.offered;
-  margin = k.margin;
-  retry = k.retry;
-  version = k.version;
-  policy = more;
-  sender = k.sender;
-}
+keeps-deed v notes deed h k more = grind arith
 
 pub has-deed : (v : HostData) (notes : policy.Notes) (deed : Deed) → HasHistory v
     → ((plan : PolicyPlan) (d : List Deed) → policy.StandsFor plan v.policy d → policy.StandsFor plan notes (d ++ deed ∷ []))
@@ -108,71 +77,38 @@ keeps-sent v notes dst h (Err e) k more = tt
 -- the rights that a policy decides on are those of its plan
 pub rights-fit : (version : ℕ) (plan : PolicyPlan) (d : List Deed) (src : Address) (tags : List ℕ) (rights : Option Rights) → AreRights version plan.rights → rights ≡ grant_decision plan d src tags
     → IfSome rights (AreRights version)
-rights-fit version plan d src tags rights fits e =
-    subst (λ (o : Option Rights). IfSome o (AreRights version)) (sym e) (elim (is_granted plan d src tags) as (λ b. IfSome (cond b (Some plan.rights) None) (AreRights version)) [ true ↦ fits | false ↦ tt ])
+rights-fit version plan d src tags rights fits e = grind arith
 
 pub some-fit : (version : ℕ) (rights : Option Rights) → IfSome rights (AreRights version) → IfSome rights AreSomeRights
-some-fit version None fits = tt
-some-fit version (Some rights) fits = some_rights version rights fits
+some-fit version rights fits = grind (arith, some_rights)
 
 -- return info of a shim of some version
 pub back-some : (version : ℕ) (back : ReturnInfo) → IsReturn version back → IsReturn 2 back
-back-some version backs.Nothing fits = tt
-back-some version backs.Notice fits = tt
-back-some version (backs.Grant rights caps) fits = some_rights version rights fits
+back-some version back fits = grind (arith, some_rights)
 
 -- the sender was told of one more contact
 pub keeps-book : (v : HostData) (book : sender.Book) (h : History) (contacts : List (Address × Contact)) → Keeps v h
     → sender.StandsFor book contacts → book.margin ≡ v.sender.margin → book.retry ≡ v.sender.retry → book.version ≡ v.sender.version
     → Keeps (booked v.offered book v) (record h { contacts = contacts })
-keeps-book v book h contacts k more margin retry version = record {
-  next = k.next;
-  offered = k.offered;
-  margin = margin ∙ k.margin;
-  retry = retry ∙ k.retry;
-  version = version ∙ k.version;
-  policy = k.policy;
-  sender = more;
-}
+keeps-book v book h contacts k more margin retry version = grind arith
 
 pub keeps-prepared : (v : HostData) (book : sender.Book) (h : History) (now : ℕ) (dst : Address) (shape : Shape) (body : ℕ) → Keeps v h
     → sender.StandsFor book (h.contacts ++ (dst, Prepared now shape (length_of v.plan.version shape body)) ∷ []) → book.margin ≡ v.sender.margin → book.retry ≡ v.sender.retry → book.version ≡ v.sender.version
     → Keeps (booked ((v.offered + 1) % 2 ^ 48) book v) (with_prepared v.plan.version now dst shape body h)
-keeps-prepared v book h now dst shape body k more margin retry version = record {
-  next = k.next;
-  offered = ap (λ n. (n + 1) % 2 ^ 48) k.offered ∙ next-nonce v.plan.nonce h.prepared;
-  margin = margin ∙ k.margin;
-  retry = retry ∙ k.retry;
-  version = version ∙ k.version;
-  policy = k.policy;
-  sender = more;
-}
+keeps-prepared v book h now dst shape body k more margin retry version = grind (arith, next-nonce)
 
 pub has-prepared : (v : HostData) (book : sender.Book) (now : ℕ) (dst : Address) (shape : Shape) (body : ℕ) → (has : HasHistory v)
     → sender.StandsFor book (has.history.contacts ++ (dst, Prepared now shape (length_of v.plan.version shape body)) ∷ []) → IsShowableContact v.plan.version (Prepared now shape (length_of v.plan.version shape body))
     → book.margin ≡ v.sender.margin → book.retry ≡ v.sender.retry → book.version ≡ v.sender.version → book.last ≤ v.last
     → HasHistory (booked ((v.offered + 1) % 2 ^ 48) book v)
-has-prepared v book now dst shape body has more fits margin retry version past = record {
-  history = with_prepared v.plan.version now dst shape body has.history;
-  valid = has.valid;
-  keeps = keeps-prepared v book has.history now dst shape body has.keeps more margin retry version;
-  showable = showable-push v.plan.version has.history.contacts dst (Prepared now shape (length_of v.plan.version shape body)) has.showable fits;
-  past = past;
-}
+has-prepared v book now dst shape body has more fits margin retry version past = grind (arith, keeps-prepared, showable-push)
 
 -- a grant that came with a shim is taken where a shim of the sender's version can carry it
 pub showable-granted : (version : ℕ) → IsVersion version → (h contacts : List (Address × Contact)) (src : Address) (rights : Rights) (caps : List ℕ) (is_taken : Bool)
     → is_taken ≡ takes version (of_peer src contacts) rights → AreShowable version h → AreSomeRights rights → AreShowable version (h ++ cond is_taken ((src, Taken rights caps) ∷ []) [])
-showable-granted version is h contacts src rights caps true taken k some = showable-push version h src (Taken rights caps) k (taken_fits version is (of_peer src contacts) rights some (sym taken))
-showable-granted version is h contacts src rights caps false taken k some = subst (λ (cs : List (Address × Contact)). AreShowable version cs) (sym (append-nil h)) k
+showable-granted version is h contacts src rights caps is_taken taken k some = grind (arith, showable-push, taken_fits, append-nil)
 
 pub has-book : (v : HostData) (book : sender.Book) (more : List (Address × Contact)) → (has : HasHistory v)
     → sender.StandsFor book (has.history.contacts ++ more) → AreShowable v.plan.version (has.history.contacts ++ more) → book.margin ≡ v.sender.margin → book.retry ≡ v.sender.retry → book.version ≡ v.sender.version
     → book.last ≡ v.sender.last → HasHistory (booked v.offered book v)
-has-book v book more has stands showable margin retry version last = record {
-  history = record has.history { contacts = has.history.contacts ++ more };
-  valid = has.valid;
-  keeps = keeps-book v book has.history (has.history.contacts ++ more) has.keeps stands margin retry version;
-  showable = showable;
-  past = omega (arith, has.past, last);
-}
+has-book v book more has stands showable margin retry version last = grind (arith, keeps-book)

@@ -11,10 +11,7 @@ pub entry_there : (es : List (Option Numbered)) (p q : ℕ) (v : Option Numbered
 entry_there es p q v n = get_or-set_other es p q v None n
 
 pub entry_read : (es : List (Option Numbered)) (p q : ℕ) (v n : Numbered) → p < length es → entry_at (set es p (Some v)) q ≡ Some n → ((q ≡ p) × (n ≡ v)) ⊎ ((q ≡ p → ⊥) × (entry_at es q ≡ Some n))
-entry_read es p q v n l h = elim (cases_eq q p) [
-  | inl e ↦ inl (e, same_entry (entry_at (set es p (Some v)) q) n v h (entry_here es p q (Some v) l e))
-  | inr o ↦ inr (o, sym (entry_there es p q (Some v) o) ∙ h)
-]
+entry_read es p q v n l h = grind (arith, cases_eq, same_entry, entry_here, entry_there)
 
 -- a place with an entry is one of the places
 pub entry_within : (es : List (Option Numbered)) (p : ℕ) (n : Numbered) → entry_at es p ≡ Some n → p < length es
@@ -23,11 +20,7 @@ entry_within es p n h = elim (cases_lt p (length es)) [ inl l ↦ l | inr l ↦ 
 module _ (links : List (Option ℕ)) (es : List (Option Numbered)) (free : List ℕ) (t : IsKeyTree links es free) where
   -- a walk comes by no free place
   pub not_free : (key depth p : ℕ) → spot links key depth ≡ Some p → IsFree links es p → ⊥
-  not_free key zero p e f = let z : 0 ≡ p = cc in let b = f.behind in absurd (omega (arith, z, b))
-  not_free key (suc depth) p e f =
-      let k = came links key depth p e in
-      let o = t.leads (link_by key depth k.0) p k.2 in
-      no_entry (entry_at es p) o.2 f.entry o.3
+  not_free key v1 p e f = grind (arith, t.leads, no_entry, f.entry)
 
   pub no_way : (p : ℕ) → IsFree links es p → (e : ℕ) → link_at links e ≡ Some p → ⊥
   no_way p f e l = let o = t.leads e p l in no_entry (entry_at es p) o.2 f.entry o.3
@@ -48,9 +41,7 @@ module _ (links : List (Option ℕ)) (es : List (Option Numbered)) (rest : List 
   one_free i l = subst (IsFree links es) (get_or_append_left rest (f ∷ []) 0 i l) (t.spare i (omega (arith, l, length_push rest f)))
 
   apart_last : (i : ℕ) → i < length rest → get_or rest i 0 ≡ f → ⊥
-  apart_last i l e =
-      t.apart i (length rest) l (omega (arith, length_push rest f))
-      (get_or_append_left rest (f ∷ []) 0 i l ∙ (e ∙ sym (get_or_push rest f 0 (length rest) refl)))
+  apart_last i l e = grind (arith, t.apart, length_push, get_or_append_left, get_or_push)
 
   way_grows : (k d p : ℕ) → spot links k d ≡ Some p → spot L k d ≡ Some p
   way_grows k zero p e = e
@@ -61,10 +52,7 @@ module _ (links : List (Option ℕ)) (es : List (Option Numbered)) (rest : List 
 
   -- no link of a free place was written
   link_other : (g b : ℕ) → IsFree links es g → b < 2 → 2 * g + b ≡ link → ⊥
-  link_other g b h l e =
-      let by = m.by in
-      let z : m.at ≡ g = omega (arith, e, by, l) in
-      not_free links es (rest ++ f ∷ []) t key m.depth m.at m.path (subst (IsFree links es) (sym z) h)
+  link_other g b h l e = grind (arith, not_free, m.depth, m.path)
 
   still_free : (g : ℕ) → IsFree links es g → (g ≡ f → ⊥) → IsFree L E g
   still_free g h other = record {

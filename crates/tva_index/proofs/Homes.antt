@@ -82,10 +82,4 @@ last_is hs p n b l w g = (
 
 -- the last below a bound is the last before a place that has none of the bucket between
 pub last_moves : (hs : List (Option ℕ)) (p n b : ℕ) (o : Option ℕ) → get_or hs p None ≡ None → p < n → IsLastBelow hs n b o → ((q : ℕ) → p < q → q < n → get_or hs q None ≡ Some b → ⊥) → IsLastBelow hs p b o
-last_moves hs p n b None f w k g = λ q t h. k q (omega (arith, w, t)) h
-last_moves hs p n b (Some m) f w k g =
-    let away = not_free hs p m b f k.1 in (
-      elim (cases_order m p) [ inl e ↦ absurd (away e) | inr y ↦ elim y [ inl x ↦ x | inr x ↦ absurd (g m x k.0 k.1) ] ],
-      k.1,
-      λ q t h. k.2 q (omega (arith, w, t)) h,
-    )
+last_moves hs p n b v4 f w k g = grind (arith, not_free, cases_order)

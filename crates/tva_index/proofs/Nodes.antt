@@ -14,34 +14,15 @@ pub all_zero : {A : Type 0} (f : A → ℕ) (z : A) (n : ℕ) (xs : List A) → 
 all_zero f z n xs e q = ap (map f) q ∙ zeros f z (2 * n) e
 
 pub nodes_zero : (n m : ℕ) (xs : List ℕ) → m ≡ 2 * n → xs ≡ replicate m 0 → AreNodes n xs
-nodes_zero n m xs e f i a b =
-    let zero_at : (j : ℕ) → j < m → get_or xs j 0 ≡ 0 = λ j l. subst (λ (z : List ℕ). get_or z j 0 ≡ 0) (sym f) (get_or-replicate m j 0 0 l) in
-    omega (arith, zero_at i (omega arith), zero_at (2 * i) (omega arith), zero_at (2 * i + 1) (omega arith))
+nodes_zero n m xs e f i a b = grind (arith, get_or-replicate)
 
 -- a number is written below all inner nodes
 pub nodes-leaf : (n leaf v : ℕ) (xs : List ℕ) → AreNodes n xs → n ≤ leaf → AreNodesBut n (set xs leaf v) (leaf / 2)
-nodes-leaf n leaf v xs t l i a b d =
-    omega (
-      arith,
-      t i a b,
-      get_or-set_other xs leaf i v 0 (λ e. absurd (omega (arith, e, b, l))),
-      get_or-set_other xs leaf (2 * i) v 0 (λ e. d (omega (arith, e))),
-      get_or-set_other xs leaf (2 * i + 1) v 0 (λ e. d (omega (arith, e))),
-    )
+nodes-leaf n leaf v xs t l i a b d = grind (arith, get_or-set_other)
 
 -- a node is mended
 pub nodes-mend : (n at v : ℕ) (xs : List ℕ) → AreNodesBut n xs at → 0 < at → at < n → length xs ≡ 2 * n → v ≡ min (get_or xs (2 * at) 0) (get_or xs (2 * at + 1) 0) → AreNodesBut n (set xs at v) (at / 2)
-nodes-mend n at v xs t p l s e i a b d =
-    let left = get_or-set_other xs at (2 * i) v 0 (λ q. d (omega (arith, q))) in
-    let right = get_or-set_other xs at (2 * i + 1) v 0 (λ q. d (omega (arith, q))) in
-    elim (cases_eq i at) [
-      | inl q ↦ (
-          let here : get_or (set xs at v) i 0 ≡ v = subst (λ z. get_or (set xs at v) z 0 ≡ v) (sym q) (get_or-set_same xs at v 0 (omega (arith, s, l))) in
-          let low : get_or xs (2 * i) 0 ≡ get_or xs (2 * at) 0 = ap (λ (z : ℕ). get_or xs (2 * z) 0) q in
-          let high : get_or xs (2 * i + 1) 0 ≡ get_or xs (2 * at + 1) 0 = ap (λ (z : ℕ). get_or xs (2 * z + 1) 0) q in
-          omega (arith, here, e, low, high, left, right))
-      | inr q ↦ omega (arith, t i a b q, get_or-set_other xs at i v 0 q, left, right)
-    ]
+nodes-mend n at v xs t p l s e i a b d = grind (arith, get_or-set_other, cases_eq, get_or-set_same)
 
 -- where the one node is right, all are
 pub nodes_all : (n at : ℕ) (xs : List ℕ) → AreNodesBut n xs at → (1 ≤ at → IsNode xs at) → AreNodes n xs
@@ -49,20 +30,11 @@ nodes_all n at xs t k i a b = elim (cases_eq i at) [ inl q ↦ subst (IsNode xs)
 
 -- the root has at most each number
 child : (n : ℕ) (xs : List ℕ) → AreNodes n xs → (j : ℕ) → 2 ≤ j → j < 2 * n → get_or xs (j / 2) 0 ≤ get_or xs j 0
-child n xs t j a b =
-    let k = t (j / 2) (omega arith) (omega arith) in
-    elim (cases_eq j (2 * (j / 2))) [
-      | inl e ↦ omega (arith, k, ap (λ (z : ℕ). get_or xs z 0) e)
-      | inr e ↦ (let f : j ≡ 2 * (j / 2) + 1 = omega arith in omega (arith, k, ap (λ (z : ℕ). get_or xs z 0) f))
-    ]
+child n xs t j a b = grind (arith, cases_eq)
 
 root_within : (n : ℕ) (xs : List ℕ) → AreNodes n xs → (k j : ℕ) → j ≤ k → 1 ≤ j → j < 2 * n → get_or xs 1 0 ≤ get_or xs j 0
 root_within n xs t zero j l a b = absurd (omega arith)
-root_within n xs t (suc k) j l a b =
-    elim (cases_lt j 2) [
-      | inl h ↦ (let e : 1 ≡ j = omega arith in omega (arith, ap (λ (z : ℕ). get_or xs z 0) e))
-      | inr h ↦ omega (arith, root_within n xs t k (j / 2) (omega arith) (omega arith) (omega arith), child n xs t j h b)
-    ]
+root_within n xs t (suc k) j l a b = grind (arith, cases_lt, root_within n xs t k (j / 2), child)
 
 pub root-le : (n : ℕ) (xs : List ℕ) → AreNodes n xs → (j : ℕ) → 1 ≤ j → j < 2 * n → get_or xs 1 0 ≤ get_or xs j 0
 root-le n xs t j a b = root_within n xs t j j (omega arith) a b

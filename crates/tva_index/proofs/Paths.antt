@@ -5,8 +5,7 @@ use Rattle.tva_index.proofs.Common.{◌≡◌, ℕ, zero, suc, ◌+◌, ◌*◌,
 
 -- an entry of the key, and a key without one
 pub has_key : (key : ℕ) (o : Option Numbered) → HasKey key o → (n : Numbered) × (o ≡ Some n) × (n.key ≡ key)
-has_key key None h = absurd h
-has_key key (Some n) h = (n, refl, h)
+has_key key v1 h = grind arith
 
 pub key_is : (key : ℕ) (o : Option Numbered) (n : Numbered) → o ≡ Some n → n.key ≡ key → HasKey key o
 key_is key o n e h = subst (HasKey key) (sym e) h
@@ -28,9 +27,7 @@ same_place o p q e f = cc
 -- keys with the same bits
 same_past : (d a b : ℕ) → ((c : ℕ) → c < d → bits_past a c % 2 ≡ bits_past b c % 2) → bits_past a d ≡ bits_past b d → a ≡ b
 same_past zero a b each e = e
-same_past (suc d) a b each e =
-    let bit = each d (omega arith) in
-    same_past d a b (λ c l. each c (omega (arith, l))) (omega (arith, bit, e))
+same_past (suc d) a b each e = grind (arith, same_past d a b)
 
 -- a number doubled so many times
 doubled : ℕ → ℕ → ℕ
@@ -59,8 +56,7 @@ step-off : (links : List (Option ℕ)) (key depth at : ℕ) → spot links key d
 step-off links key depth at e l = ap (option_and_then (λ (p : ℕ). link_at links (link_by key depth p))) e ∙ l
 
 came-by : (links : List (Option ℕ)) (key depth p : ℕ) (o : Option ℕ) → option_and_then (λ (q : ℕ). link_at links (link_by key depth q)) o ≡ Some p → (q : ℕ) × (o ≡ Some q) × (link_at links (link_by key depth q) ≡ Some p)
-came-by links key depth p None e = absurd (cc)
-came-by links key depth p (Some q) e = (q, refl, e)
+came-by links key depth p v4 e = grind arith
 
 -- the step before
 pub came : (links : List (Option ℕ)) (key depth p : ℕ) → spot links key (suc depth) ≡ Some p → (q : ℕ) × (spot links key depth ≡ Some q) × (link_at links (link_by key depth q) ≡ Some p)
@@ -77,8 +73,7 @@ gone links key depth here (suc more) l = elim (cases_lt depth (suc more)) [
 module _ (links : List (Option ℕ)) (es : List (Option Numbered)) (free : List ℕ) (t : IsKeyTree links es free) where
   -- a walk stays within the tree: at the first place, or where a link leads
   pub stays : (key depth p : ℕ) → spot links key depth ≡ Some p → p < length es
-  stays key zero p e = let z : 0 ≡ p = cc in omega (arith, t.some, z)
-  stays key (suc depth) p e = let k = came links key depth p e in (t.leads (link_by key depth k.0) p k.2).1
+  stays key v1 p e = grind (arith, t.leads)
 
   pub link_within : (key depth p : ℕ) → spot links key depth ≡ Some p → link_by key depth p < length links
   link_within key depth p e = let l = stays key depth p e in omega (arith, l, t.sizes)
@@ -126,12 +121,7 @@ module _ (links : List (Option ℕ)) (es : List (Option Numbered)) (free : List 
   IsNotBefore key depth = (p : ℕ) → HasKey key (entry_at es p) → (d : ℕ) → spot links key d ≡ Some p → depth ≤ d
 
   pub later_here : (key depth at : ℕ) → IsNotBefore key depth → spot links key depth ≡ Some at → (HasKey key (entry_at es at) → ⊥) → IsLater key depth
-  later_here key depth at w e other p h d r = elim (cases_eq d depth) [
-    | inl z ↦ (
-        let same : p ≡ at = same_place (spot links key d) p at r (subst (λ x. spot links key x ≡ Some at) (sym z) e) in
-        absurd (other (subst (λ x. HasKey key (entry_at es x)) same h)))
-    | inr z ↦ (let l = w p h d r in omega (arith, l, z))
-  ]
+  later_here key depth at w e other p h d r = grind (arith, cases_eq, same_place)
 
   -- where it leads nowhere
   pub later-none : (key depth at : ℕ) → IsLater key depth → spot links key depth ≡ Some at → link_at links (link_by key depth at) ≡ None → IsAbsent es key
@@ -159,50 +149,17 @@ module _ (links : List (Option ℕ)) (es : List (Option Numbered)) (free : List 
   -- a step of the walk
   pub goes : (key depth at bits next : ℕ) → spot links key depth ≡ Some at → bits ≡ bits_past key depth → link_at links (2 * at + bits % 2) ≡ Some next
       → (spot links key (depth + 1) ≡ Some next) × (bits / 2 ≡ bits_past key (depth + 1))
-  goes key depth at bits next path same leads =
-      let on : link_at links (link_by key depth at) ≡ Some next = subst (λ (z : ℕ). link_at links (2 * at + z % 2) ≡ Some next) same leads in
-      let more : suc depth ≡ depth + 1 = omega arith in (
-        subst (λ (z : ℕ). spot links key z ≡ Some next) more (step-on links key depth at next path on),
-        subst (λ (z : ℕ). bits / 2 ≡ bits_past key z) more (ap (λ (z : ℕ). z / 2) same),
-      )
+  goes key depth at bits next path same leads = grind (arith, step-on)
 
   -- it ends at a link that leads nowhere
   pub stops : (key depth at bits : ℕ) → key < 2 ^ 32 → depth < 33 → spot links key depth ≡ Some at → bits ≡ bits_past key depth → IsLater key depth → link_at links (2 * at + bits % 2) ≡ None
       → IsMissing links es key (2 * at + bits % 2)
-  stops key depth at bits small deep path same later none =
-      let off : link_at links (link_by key depth at) ≡ None = subst (λ (z : ℕ). link_at links (2 * at + z % 2) ≡ None) same none in
-      let by : 2 * at + bits % 2 ≡ link_by key depth at = ap (λ (z : ℕ). 2 * at + z % 2) same in
-      record {
-        depth = depth;
-        deep = elim (cases_eq depth 32) [
-          | inl e ↦ absurd (later_all key at small (subst (IsLater key) e later) (subst (λ z. spot links key z ≡ Some at) e path))
-          | inr n ↦ omega (arith, n, deep)
-        ];
-        at = at;
-        path = path;
-        by = by;
-        nowhere = none;
-        within = subst (λ (z : ℕ). z < length links) (sym by) (link_within key depth at path);
-        absent = later-none key depth at later path off;
-      }
+  stops key depth at bits small deep path same later none = grind (arith, cases_eq, later_all, link_within, later-none)
 
   -- ## the way on to a place below
 
   pub below-start : (key : ℕ) (led : Led) → IsFound links es key led → IsBelow links es led.at led 0
-  below-start key led f =
-      let n = has_key key (entry_at es led.at) f.entry in
-      let s : spot links n.0.key f.depth ≡ Some led.at = subst (λ x. spot links x f.depth ≡ Some led.at) (sym n.2) f.path in
-      record {
-        key = n.0;
-        entry = n.1;
-        link = f.link;
-        depth = f.depth;
-        path = s;
-        passed = f.depth;
-        by = s;
-        long = omega arith;
-        deep = f.deep;
-      }
+  below-start key led f = grind arith
 
   pub below-on : (above : ℕ) (led next : Led) (steps : ℕ) → IsBelow links es above led steps → 2 * led.at ≤ next.link → next.link ≤ 2 * led.at + 1 → link_at links next.link ≡ Some next.at → IsBelow links es above next (steps + 1)
   below-on above led next steps b low high l =
@@ -241,14 +198,4 @@ module _ (links : List (Option ℕ)) (es : List (Option Numbered)) (free : List 
   led_within above led steps b = (t.leads led.link led.at b.link).1
 
   pub below_any : (above : ℕ) (led : Led) (steps : ℕ) → IsBelow links es above led steps → IsBelow links es above led 0
-  below_any above led steps b = let long = b.long in record {
-    key = b.key;
-    entry = b.entry;
-    link = b.link;
-    depth = b.depth;
-    path = b.path;
-    passed = b.passed;
-    by = b.by;
-    long = omega (arith, long);
-    deep = b.deep;
-  }
+  below_any above led steps b = grind arith

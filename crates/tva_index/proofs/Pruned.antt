@@ -24,10 +24,7 @@ module _ (links : List (Option ℕ)) (es : List (Option Numbered)) (free : List 
   y_within = (t.leads leaf.link y b.below.link).1
 
   link_length : leaf.link < length links
-  link_length = elim (cases_lt leaf.link (length links)) [
-    | inl l ↦ l
-    | inr l ↦ absurd (no_link (link_at links leaf.link) y (get_or_past links leaf.link None l) b.below.link)
-  ]
+  link_length = grind (arith, cases_lt, no_link, get_or_past)
 
   -- what stands where
   size : length E ≡ length es
@@ -43,19 +40,11 @@ module _ (links : List (Option ℕ)) (es : List (Option Numbered)) (free : List 
   at_other p n o = entry_there (set es x (Some m)) y p None o ∙ entry_there es x p (Some m) n
 
   entry_cut : (p : ℕ) (n : Numbered) → entry_at E p ≡ Some n → (p ≡ y → ⊥) × (((p ≡ x) × (n ≡ m)) ⊎ ((p ≡ x → ⊥) × (entry_at es p ≡ Some n)))
-  entry_cut p n h = elim (cases_eq p y) [
-    | inl e ↦ absurd (no_entry (entry_at E p) n (at_leaf p e) h)
-    | inr o ↦ elim (cases_eq p x) [
-      | inl e ↦ (o, inl (e, same_entry (entry_at E p) n m h (at_place p e o)))
-      | inr d ↦ (o, inr (d, sym (at_other p d o) ∙ h))
-    ]
-  ]
+  entry_cut p n h = grind (arith, cases_eq, no_entry, at_leaf, same_entry, at_place, at_other)
 
   -- where links lead
   link_cut : (e p : ℕ) → link_at L e ≡ Some p → (p ≡ y → ⊥) × (link_at links e ≡ Some p)
-  link_cut e p h =
-      let r = removed links leaf.link e p link_length h in
-      ((λ z. r.0 (t.once e leaf.link y (subst (λ w. link_at links e ≡ Some w) z r.1) b.below.link)), r.1)
+  link_cut e p h = grind (arith, removed, link_length, t.once)
 
   link_none : (e : ℕ) → link_at links e ≡ None → link_at L e ≡ None
   link_none e h = elim (cases_eq e leaf.link) [
@@ -64,10 +53,7 @@ module _ (links : List (Option ℕ)) (es : List (Option Numbered)) (free : List 
   ]
 
   leaf_off : (c : ℕ) → c < 2 → link_at links (2 * y + c) ≡ None
-  leaf_off c l = elim (cases_eq c 0) [
-    | inl z ↦ (let e : 2 * y ≡ 2 * y + c = omega (arith, z) in subst (λ w. link_at links w ≡ None) e b.low)
-    | inr z ↦ (let e : 2 * y + 1 ≡ 2 * y + c = omega (arith, z, l) in subst (λ w. link_at links w ≡ None) e b.high)
-  ]
+  leaf_off c l = grind (arith, cases_eq)
 
   way_cut : (k d p : ℕ) → spot links k d ≡ Some p → (p ≡ y → ⊥) → spot L k d ≡ Some p
   way_cut k zero p e o = e
@@ -79,10 +65,7 @@ module _ (links : List (Option ℕ)) (es : List (Option Numbered)) (free : List 
 
   -- a place that was free, and the one that is free now
   free_other : (g : ℕ) → IsFree links es g → (g ≡ x → ⊥) × (g ≡ y → ⊥)
-  free_other g h = (
-    (λ e. no_entry (entry_at es g) old h.entry (subst (λ z. entry_at es z ≡ Some old) (sym e) is)),
-    λ e. no_entry (entry_at es g) m h.entry (subst (λ z. entry_at es z ≡ Some m) (sym e) b.below.entry),
-  )
+  free_other g h = grind (arith, no_entry, h.entry)
 
   still_free : (g : ℕ) → IsFree links es g → IsFree L E g
   still_free g h = let o = free_other g h in record {
@@ -103,10 +86,7 @@ module _ (links : List (Option ℕ)) (es : List (Option Numbered)) (free : List 
   }
 
   free_at : (i : ℕ) → i < length (free ++ y ∷ []) → ((i < length free) × (get_or (free ++ y ∷ []) i 0 ≡ get_or free i 0)) ⊎ ((i ≡ length free) × (get_or (free ++ y ∷ []) i 0 ≡ y))
-  free_at i l = elim (cases_lt i (length free)) [
-    | inl k ↦ inl (k, get_or_append_left free (y ∷ []) 0 i k)
-    | inr k ↦ (let e : i ≡ length free = omega (arith, k, l, length_push free y) in inr (e, get_or_push free y 0 i (sym e)))
-  ]
+  free_at i l = grind (arith, cases_lt, get_or_append_left, length_push, get_or_push)
 
   pub pruned : IsKeyTree L E (free ++ y ∷ [])
   pruned = record {

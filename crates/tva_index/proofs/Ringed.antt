@@ -17,8 +17,7 @@ place_none key (k ∷ ks) n =
     rw (ne_eqb k key (n 0 (omega arith))) (ap (option_map (λ (m : ℕ). suc m)) (place_none key ks (λ i l. n (suc i) (omega (arith, l)))))
 
 none_next : (o : Option ℕ) → option_map (λ (n : ℕ). suc n) o ≡ None → o ≡ None
-none_next None e = refl
-none_next (Some n) e = absurd (cc)
+none_next v0 e = grind arith
 
 some_none : (n : ℕ) → (Some n ≡ None) → ⊥
 some_none n e = absurd (cc)
@@ -26,10 +25,7 @@ some_none n e = absurd (cc)
 pub not_there : (key : ℕ) (keys : List ℕ) → place_in key keys ≡ None → (i : ℕ) → i < length keys → get_or keys i 0 ≡ key → ⊥
 not_there key [] h i l e = absurd (omega (arith, l))
 not_there key (k ∷ ks) h zero l e = some_none 0 (rw (eq-eqb k key e) at h)
-not_there key (k ∷ ks) h (suc i) l e = elim (cases_eq k key) [
-  | inl s ↦ some_none 0 (rw (eq-eqb k key s) at h)
-  | inr n ↦ not_there key ks (none_next (place_in key ks) (rw (ne_eqb k key n) at h)) i (omega (arith, l)) e
-]
+not_there key (k ∷ ks) h (suc i) l e = grind (arith, cases_eq, some_none, eq-eqb, not_there key ks, none_next, ne_eqb)
 
 same_number : (o : Option Numbered) (k n j m : ℕ) → o ≡ Some (numbered k n) → o ≡ Some (numbered j m) → n ≡ m
 same_number o k n j m e f = ap (λ (z : Numbered). z.number) (same_entry o (numbered k n) (numbered j m) e f)
@@ -50,24 +46,13 @@ module _ (places first : ℕ) (keys : List ℕ) (links : List (Option ℕ)) (es 
       absurd (omega (arith, s, l, k, few, count, start))
 
   pub numbered_place : (key number p : ℕ) → entry_at es p ≡ Some (numbered key number) → Some ((number + (2 ^ 32 - first)) % 2 ^ 32) ≡ place_in key keys
-  numbered_place key number p h =
-      let o = a.only p (numbered key number) h in
-      let few = a.few in
-      let count = a.count in
-      let start = a.start in
-      let is = o.3 in
-      let l = o.1 in
-      let n : (number + (2 ^ 32 - first)) % 2 ^ 32 ≡ o.0 = omega (arith, is, l, few, count, start) in
-      ap (λ (z : ℕ). Some z) n ∙ sym (place_found key keys o.0 o.1 o.2 (λ j m e. differ j o.0 m o.1 (e ∙ sym o.2)))
+  numbered_place key number p h = grind (arith, a.only, place_found, differ)
 
   pub absent_place : (key : ℕ) → IsAbsent es key → None ≡ place_in key keys
   absent_place key n = sym (place_none key keys (λ i l e. let x = a.each i l in n x.0 (key_is key (entry_at es x.0) (numbered (get_or keys i 0) ((first + i) % 2 ^ 32)) x.1 e)))
 
   pub new_absent : (key : ℕ) → place_in key keys ≡ None → IsAbsent es key
-  new_absent key none p h =
-      let n = has_key key (entry_at es p) h in
-      let o = a.only p n.0 n.1 in
-      not_there key keys none o.0 o.1 (o.2 ∙ n.2)
+  new_absent key none p h = grind (arith, a.only, not_there)
 
   -- a key goes last
   pub numbered_push : (key : ℕ) (links' : List (Option ℕ)) (es' : List (Option Numbered)) (free' : List ℕ) → length keys < places → IsKeyTree links' es' free' → IsPut key ((first + length keys) % 2 ^ 32) es es' → length free' + 1 ≡ length free

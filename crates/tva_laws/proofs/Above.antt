@@ -1,8 +1,7 @@
 -- Each upper part under way in a run is true: a range is of a transfer of its source, and what is acknowledged was
 -- delivered. A host makes no other, and no router changes one.
-use Rattle.tva_laws.proofs.Common.{◌≡◌, ℕ, ◌+◌, ◌<◌, ◌≤◌, Bool, true, false, cond, eqb, List, [], ◌∷◌, ◌++◌, Option, Some, None, refl, sym, ap, subst, ◌∙◌, append_assoc, arith, slice_get, option_map, IfSome, AllByRecursion, filter_map-append, slice_get_within, same_Some, Address, Flow, Upper, Nothing, Data, Ack, HostPlan, RouterPlan, PacketData, made_packet, ReturnInfo, Charge, handle, Made, Receipt, History, history_of, intended, receipt_of, reply_of, stray, before_reply, claim_in, brought_by, Config, NodePlan, IsConfig, Transfer, Files, Act, Came, Filed, answered, files_of, first_segment, next_of, number_of, segment_due, sent_by, to_from, IsKept, sent_ack, sent_data, stays, Row, RowWhat, Send, Inject, File, Tick, files_at, Input, FromTrace, Arrival, Site, Content, Entry, Took, act_of, act_of_row, acts, calls, files, arrived, content, content_by, hosted, made_for, next_id, packet_of_row, routed, sent_with, sent_out, due, Logs, log_at, site_at, IsRunTo, made_in, HasMade, IsHostAt, bytes_delivered, transfer_at}
+use Rattle.tva_laws.proofs.Common.{◌≡◌, ℕ, ◌+◌, ◌<◌, ◌≤◌, List, [], ◌∷◌, ◌++◌, Option, Some, None, refl, sym, ap, subst, ◌∙◌, append_assoc, arith, slice_get, option_map, IfSome, AllByRecursion, filter_map-append, slice_get_within, same_Some, Address, Flow, Upper, Nothing, Data, Ack, HostPlan, RouterPlan, PacketData, Charge, handle, Made, Receipt, History, history_of, intended, receipt_of, Config, NodePlan, IsConfig, Transfer, Files, Act, Came, Filed, answered, first_segment, next_of, number_of, segment_due, sent_by, to_from, IsKept, sent_ack, sent_data, stays, Row, RowWhat, Send, Inject, File, Tick, files_at, Input, FromTrace, Arrival, Site, Content, Entry, Took, act_of, act_of_row, calls, files, arrived, content, content_by, hosted, made_for, next_id, packet_of_row, routed, sent_with, sent_out, due, Logs, log_at, site_at, IsRunTo, made_in, HasMade, IsHostAt, bytes_delivered, transfer_at, nat_tests}
 use Rattle.tva_router.specs.Handling as handling
-use Rattle.tva_host.specs.Receiving as receiving
 use Rattle.tva_plan.specs.declared.config.NodePlan.TheVariants as plans
 use Rattle.tva_transfer.specs.Files.{Ticked}
 use Rattle.tva_laws.proofs.Origins.{AnyRow, any_rows, onward_keeps}
@@ -50,10 +49,7 @@ module _ (config : Config) (logs : Logs) where
   -- no router changes it
   hands_on : (plan : RouterPlan) (h : List Charge) (links : handling.PortLogs) (now : ℕ) (from : Option ℕ) (p : PacketData)
       → IsTruePacket config logs p → IsTruePacket config logs (handle plan h links now from p).onward
-  hands_on plan h links now from p k =
-      let o = (handle plan h links now from p).onward in
-      let keeps = onward_keeps plan h links now from p in
-      subst (λ (f : Flow). IsTrueUpper config logs f o.upper) (sym keeps.flow) (subst (IsTrueUpper config logs p.flow) (sym keeps.upper) k)
+  hands_on plan h links now from p k = grind (arith, nat_tests, onward_keeps)
 
   abbrev MakesTrue : Content → Type 0
   MakesTrue c = (p : PacketData) → made_in c ≡ Some p → IsTruePacket config logs p
@@ -78,18 +74,12 @@ module _ (config : Config) (logs : Logs) where
 
   row_true : (number : ℕ) (plan : RouterPlan) (before : List Entry) (now : ℕ) (w : RowWhat) (c : Content)
       → option_map (arrived plan before now None) (packet_of_row (next_id number before) w) ≡ Some c → MakesTrue c
-  row_true number plan before now (Send dst payload) c e = absurd (cc)
-  row_true number plan before now (File dst size segment) c e = absurd (cc)
-  row_true number plan before now (Tick dst) c e = absurd (cc)
-  row_true number plan before now (Inject flow payload carries) c e =
-      let q : PacketData = made_packet (next_id number before) flow payload carries in
-      subst MakesTrue (same_Some (arrived plan before now None q) c e) (injected_true plan before now q tt)
+  row_true number plan before now w c e = grind (arith, nat_tests, same_Some, injected_true)
 
   routed_true : (number : ℕ) (plan : RouterPlan) (before : List Entry) (i : Input) (c : Content)
       → routed number plan before i ≡ Some c → MakesTrue c
   routed_true number plan before (FromTrace row) c e = row_true number plan before row.time.0 row.what c e
-  routed_true number plan before (Arrival time link packet) c e =
-      subst MakesTrue (same_Some (arrived plan before time.0 (Some link) packet) c e) (passed_true plan before time.0 link packet)
+  routed_true number plan before (Arrival time link packet) c e = grind (arith, nat_tests, same_Some, passed_true)
 
   -- ## a host
 
@@ -106,9 +96,6 @@ module _ (config : Config) (logs : Logs) where
     abbrev MakesOwn : Content → Type 0
     MakesOwn c = (p : PacketData) → made_in c ≡ Some p → OwnPacket p
 
-    some_own : (q : PacketData) → OwnPacket q → (p : PacketData) → Some q ≡ Some p → OwnPacket p
-    some_own q k p e = subst OwnPacket (same_Some q p e) k
-
     none_own : (p : PacketData) → None ≡ Some p → OwnPacket p
     none_own p e = absurd (cc)
 
@@ -120,18 +107,12 @@ module _ (config : Config) (logs : Logs) where
         → next_of (files plan front) s t ≤ bytes_delivered s t (log_at logs node)
     delivered_most front back split s t =
         let has = run.each node site is in
-        let here = bytes_at site plan host (due until has.inputs) (log_at logs node) front back has.is_log.steps split s t in
-        let most = bytes-more s t front back in
-        let all : bytes_delivered s t (log_at logs node) ≡ bytes_delivered s t (front ++ back) = ap (bytes_delivered s t) split in
-        omega (arith, here, most, all)
+        grind (arith, nat_tests, bytes_at site plan host (due until has.inputs) (log_at logs node) front back has.is_log.steps split s t, bytes-more s t front back)
 
     -- a transfer is at its place in the whole log as it is after some entries
     kept : (front back : List Entry) → log_at logs node ≡ front ++ back → (place : ℕ) (t : Transfer)
         → slice_get (files plan front).transfers place ≡ Some t → IsKept (files plan (log_at logs node)).transfers place t
-    kept front back split place t here =
-        let all : files plan (log_at logs node) ≡ files_of plan.address (acts front ++ acts back) =
-        ap (files plan) split ∙ ap (files_of plan.address) (filter_map-append act_of front back) in
-        subst (λ (f : Files). IsKept f.transfers place t) (sym all) (stays plan.address (acts front) (acts back) place t here)
+    kept front back split place t here = grind (arith, nat_tests, filter_map-append, stays)
 
     -- what is sent by an act is true
     act_true : (before : List Entry) (e : Entry) (rest : List Entry) → log_at logs node ≡ before ++ e ∷ rest → (act : Act)
@@ -145,33 +126,8 @@ module _ (config : Config) (logs : Logs) where
         let here : slice_get (files plan (before ++ e ∷ [])).transfers own.place ≡ Some own.transfer =
         ap (λ (f : Files). slice_get f.transfers own.place) after ∙ own.at in
         let all = kept (before ++ e ∷ []) rest (split ∙ sym (append_assoc before (e ∷ []) rest)) own.place own.transfer here in
-        let room = few_transfers config rows until logs few run node site plan is in
-        let there = slice_get_within (files plan (log_at logs node)).transfers own.place all.now all.at in
-        let number : transfer ≡ own.place = sym own.numbered ∙ small own.place (omega (arith, room, there)) in
-        record {
-          other = node;
-          from = plan;
-          sender = at_host;
-          address = refl;
-          file = all.now;
-          is = ap (slice_get (files plan (log_at logs node)).transfers) number ∙ all.at;
-          dst = all.dst ∙ own.to;
-          within = (let fits = own.fits in let size = all.size in omega (arith, fits, size));
-          some = some_sent plan (log_at logs node) before e rest full split act does (to_from dst plan.address) transfer first bytes sent;
-          sent = made;
-        }
-    act_true before e rest split act does dst (Ack transfer next) sent made =
-        let tells = sent_ack plan.address (files plan before) act (to_from dst plan.address) transfer next sent in
-        let after = files_act plan before e act does in
-        let most = delivered_most (before ++ e ∷ []) rest (split ∙ sym (append_assoc before (e ∷ []) rest)) dst transfer in
-        record {
-          other = node;
-          to = plan;
-          receiver = at_host;
-          address = refl;
-          most = subst (λ n. n ≤ bytes_delivered dst transfer (log_at logs node))
-              (ap (λ (f : Files). next_of f dst transfer) after ∙ sym tells) most;
-        }
+        grind (arith, nat_tests, few_transfers config rows until logs few run node site plan is, slice_get_within (files plan (log_at logs node)).transfers own.place all.now all.at, some_sent plan (log_at logs node) before e rest full split act does (to_from dst plan.address) transfer first bytes sent)
+    act_true before e rest split act does dst (Ack transfer next) sent made = grind (arith, nat_tests, sent_ack plan.address (files plan before) act (to_from dst plan.address) transfer next sent, files_act plan before e act does, delivered_most (before ++ e ∷ []) rest (split ∙ sym (append_assoc before (e ∷ []) rest)) dst transfer, append_assoc before (e ∷ []) rest)
 
     -- ## for a row
 
@@ -180,8 +136,7 @@ module _ (config : Config) (logs : Logs) where
         → Own (to_from dst plan.address) above)
         → IfSome (option_map (sent_with site.number plan h now dst) o) (λ (made : Made). OwnPacket made.packet)
     unfolding intended
-    due_true h now dst None lifts = tt
-    due_true h now dst (Some above) lifts = lifts above refl
+    due_true h now dst o lifts = grind (arith, nat_tests)
 
     made_true : (h : History) (known : Files) (now : ℕ) (w : RowWhat)
         → ((act : Act) → act_of_row w ≡ Some act → (dst : Address) (above : Upper)
@@ -198,44 +153,22 @@ module _ (config : Config) (logs : Logs) where
 
     sent_true : (before : List Entry) (made : Option Made) → IfSome made (λ (m : Made). OwnPacket m.packet)
         → MakesOwn (sent_out site plan before made)
-    sent_true before None k p e = none_own p e
-    sent_true before (Some made) k p e = some_own made.packet k p e
+    sent_true before made k p e = grind (arith, nat_tests, none_own)
 
     -- ## for a packet that comes in
 
-    reply_true : (h : History) (now : ℕ) (src : Address) (back : Option ReturnInfo) (above : Upper)
-        → Own (to_from src plan.address) above
-        → (p : PacketData) → option_map (λ (made : Made). made.packet) (reply_of site.number plan h now src back above) ≡ Some p
-        → OwnPacket p
-    reply_true h now src None above k p e = none_own p e
-    reply_true h now src (Some back) above k p e = some_own _ k p e
-
     abbrev RepliesTrue : Receipt → Type 0
     RepliesTrue r = (p : PacketData) → option_map (λ (made : Made). made.packet) r.reply ≡ Some p → OwnPacket p
-
-    either_true : (b : Bool) (r s : Receipt) → RepliesTrue r → RepliesTrue s → RepliesTrue (cond b r s)
-    either_true true r s k l = k
-    either_true false r s k l = l
 
     receipt_true : (h : History) (now : ℕ) (q : PacketData) (above : Upper)
         → Own (to_from q.flow.src plan.address) above
         → RepliesTrue (receipt_of site.number plan h now q above)
     unfolding receipt_of
-    receipt_true h now q above k =
-        either_true (eqb q.flow.dst.0 plan.address.0) (receiving.received site.number plan h now q.flow.src q.carried above) stray
-        (reply_true (before_reply plan q.flow.src q.carried h) now q.flow.src
-        (brought_by above (receiving.answer_to_claim plan h.deeds q.flow.src q.carried (claim_in q.carried))) above k)
-        (λ p e. none_own p e)
+    receipt_true h now q above k = search (arith, nat_tests, none_own)
 
     hosted_true : (before : List Entry) (input : Input) (rest : List Entry)
         → log_at logs node ≡ before ++ Took input (hosted site plan before input) ∷ rest → MakesOwn (hosted site plan before input)
-    hosted_true before (FromTrace row) rest split =
-        let h = history_of plan (calls before) in
-        let known = files plan before in
-        let e = Took (FromTrace row) (hosted site plan before (FromTrace row)) in
-        sent_true before (made_for site.number plan h known row.time.0 row.what)
-        (made_true h known row.time.0 row.what (λ act is dst above sent.
-        act_true before e rest split act is dst above sent))
+    hosted_true before (FromTrace row) rest split = search (arith, nat_tests, sent_true, made_true, act_true)
     hosted_true before (Arrival time link q) rest split =
         let h = history_of plan (calls before) in
         let above = answered plan.address (files plan before) q in
@@ -268,8 +201,7 @@ module _ (config : Config) (rows : List Row) (until : ℕ) (logs : Logs) (valid 
       → content site before input ≡ Some c → MakesTrue config logs c
   makes_by node site (plans.Router plan) kind is before input c rest split e =
       routed_true config logs site.number plan before input c (subst (λ (p : NodePlan). content_by site p before input ≡ Some c) kind e)
-  makes_by node site (plans.Host plan) kind is before input c rest split e =
-      host_true config logs rows until few run node site plan is kind (all_full config rows until logs valid bytes run node site is) before input c rest split e
+  makes_by node site (plans.Host plan) kind is before input c rest split e = search (arith, nat_tests, host_true, all_full)
 
   -- each packet that a node's log names has a true upper part
   pub all_true : (node : ℕ) (site : Site) → site_at config node ≡ Some site

@@ -1,5 +1,5 @@
 -- What a node's log keeps, entry by entry.
-use Rattle.tva_laws.proofs.Common.{◌≡◌, ℕ, ◌≤◌, ◌<◌, Bool, true, false, cond, List, [], ◌∷◌, ◌++◌, Option, Some, None, refl, sym, ap, ◌∙◌, subst, arith, append-nil, ◌==◌, option_map, IfSome, AllByRecursion, cons_option, eqb-true, filter-append, filter_map-append, All-from_recursion, All-nil, All-push, LinkLimits, Grant, RouterPlan, HostPlan, boot_at, IsHostPlan, PacketData, IsSizedPacket, Charge, NoChargeLater, AreNext, IsWithinSeconds, AreTimely, IsLegal, charges_of_boot, charges_at, History, Call, history_of, history_of-push, RowWhat, Send, Inject, File, Tick, Input, FromTrace, Arrival, Site, IsSite, limits_out, Content, Arrived, Sent, Ticked, Received, Entry, Took, Started, input_time, entry_time, charged, charge_of, charges, call_of_row, call_of_input, call_of, calls, packet_sent, port_logs, content, due, IsNodeLog, each-weaker, each-filter, at_place, by_place, each_place, past_at, IsMade, made_at, Leaves, LeavesAt, logs_good, starts_good, IsSizedInput, IsSizedEntry}
+use Rattle.tva_laws.proofs.Common.{◌≡◌, ℕ, ◌≤◌, ◌<◌, Bool, true, false, cond, List, [], ◌∷◌, ◌++◌, Option, Some, None, refl, sym, ap, ◌∙◌, subst, arith, append-nil, ◌==◌, IfSome, AllByRecursion, cons_option, eqb-true, filter-append, filter_map-append, All-from_recursion, All-nil, All-push, LinkLimits, RouterPlan, HostPlan, boot_at, IsHostPlan, IsSizedPacket, Charge, NoChargeLater, AreNext, IsWithinSeconds, AreTimely, IsLegal, charges_of_boot, charges_at, Call, history_of, history_of-push, Input, Site, IsSite, limits_out, Content, Entry, Took, Started, input_time, entry_time, charge_of, charges, call_of_input, call_of, calls, port_logs, content, due, IsNodeLog, each-weaker, each-filter, at_place, by_place, each_place, past_at, IsMade, made_at, Leaves, LeavesAt, logs_good, starts_good, IsSizedInput, IsSizedEntry, nat_tests}
 use Rattle.tva_flow.proofs.Pushes.{next-push}
 use Rattle.tva_port.specs.Log as port
 use Rattle.tva_plan.specs.declared.config.NodePlan.TheVariants as plans
@@ -17,38 +17,25 @@ IsSizedPlace (Took input made) = IsSizedInput input × Leaves IsSizedPacket made
 IsSizedPlace (Started time link class packet) = IsSizedPacket packet
 
 leaves : (e : Entry) → IsSizedPlace e → LeavesAt IsSizedPacket e
-leaves (Took input made) k = k.1
-leaves (Started time link class packet) k = tt
+leaves e k = grind (arith, nat_tests)
 
 taken : (e : Entry) → IsSizedPlace e → IsSizedTaken e
-taken (Took input made) k = input_taken input made k.0
-taken (Started time link class packet) k = tt
+taken e k = grind (arith, nat_tests, input_taken)
 
 -- what starts is within the sizes
 pub sent_sized : (e : Entry) → IsSizedPlace e → IsSizedEntry e
-sent_sized (Took input made) k = tt
-sent_sized (Started time link class packet) k = k
+sent_sized e k = grind (arith, nat_tests)
 
 short : (x : port.Entry) → Brings IsSizedPacket x → IsShort x
-short (port.Queued time class key packet) s = (sized_length packet s).1
-short (port.Started time class packet) s = tt
+short x s = grind (arith, nat_tests, sized_length)
 
 -- ## the charges before
 
 charge_time : (e : Entry) → IfSome (charge_of e) (λ c. c.time ≡ entry_time e)
-charge_time (Took input (Arrived from packet fate onward)) = by_charge fate.charge
-  where
-    by_charge : (o : Option Grant) → IfSome (option_map (charged (input_time input) packet) o) (λ c. c.time ≡ input_time input)
-    by_charge None = tt
-    by_charge (Some g) = refl
-charge_time (Took input (Sent made outcome)) = tt
-charge_time (Took input Ticked) = tt
-charge_time (Took input (Received from packet receipt went range)) = tt
-charge_time (Started time link class packet) = tt
+charge_time e = grind (arith, nat_tests)
 
 past_option : (now t : ℕ) (o : Option Charge) (cs : List Charge) → t ≤ now → IfSome o (λ c. c.time ≡ t) → AllByRecursion (λ c. c.time ≤ now) cs → AllByRecursion (λ c. c.time ≤ now) (cons_option o cs)
-past_option now t None cs l e a = a
-past_option now t (Some c) cs l e a = (let k : c.time ≡ t = e in omega (arith, k), a)
+past_option now t o cs l e a = grind (arith, nat_tests)
 
 past_all : (now : ℕ) (log : List Entry) → AllByRecursion (λ e. entry_time e ≤ now) log → AllByRecursion (λ c. c.time ≤ now) (charges log)
 past_all now [] a = tt
@@ -61,9 +48,7 @@ charges_past plan boot now log a =
 
 charges_more : (plan : RouterPlan) (boot : ℕ) (log : List Entry) (e : Entry)
     → charges_of_boot plan boot (charges (log ++ e ∷ [])) ≡ charges_of_boot plan boot (charges log) ++ charges_of_boot plan boot (cons_option (charge_of e) [])
-charges_more plan boot log e =
-    ap (charges_of_boot plan boot) (filter_map-append charge_of log (e ∷ []))
-    ∙ filter-append (λ (c : Charge). boot_at plan c.time == boot) (charges log) (cons_option (charge_of e) [])
+charges_more plan boot log e = grind (arith, nat_tests, filter_map-append, filter-append)
 
 abbrev AreCharged : RouterPlan → List Charge → Type 0
 AreCharged plan h = AreNext plan.slots plan.clock_offset [] h × AreTimely plan.clock_offset h
@@ -89,27 +74,14 @@ calls_more : (log : List Entry) (e : Entry) → calls (log ++ e ∷ []) ≡ call
 calls_more log e = filter_map-append call_of log (e ∷ [])
 
 met_option : (plan : HostPlan) (cs : List Call) (o : Option Call) → IsHostPlan plan → AreMet plan.version (history_of plan cs).contacts → IfSome o IsSizedCall → AreMet plan.version (history_of plan (cs ++ cons_option o [])).contacts
-met_option plan cs None v k s = subst (λ (z : List Call). AreMet plan.version (history_of plan z).contacts) (sym (append-nil cs)) k
-met_option plan cs (Some c) v k s = subst (λ (h : History). AreMet plan.version h.contacts) (sym (history_of-push plan cs c)) (call_met plan (history_of plan cs) c v s k)
-
-row_call : (now : ℕ) (what : RowWhat) (packet : PacketData) → IsSizedCall (call_of_row now what packet)
-row_call now (Send dst payload) packet = tt
-row_call now (Inject flow payload carried) packet = tt
-row_call now (File dst size segment) packet = tt
-row_call now (Tick dst) packet = tt
-
-sent_call : (now : ℕ) (what : RowWhat) (o : Option PacketData) → IfSome (option_map (call_of_row now what) o) IsSizedCall
-sent_call now what None = tt
-sent_call now what (Some packet) = row_call now what packet
+met_option plan cs o v k s = grind (arith, nat_tests, append-nil, history_of-push, call_met)
 
 input_call : (input : Input) (made : Content) → IsSizedInput input → IfSome (call_of_input input made) IsSizedCall
-input_call (FromTrace row) made s = sent_call row.time.0 row.what (packet_sent made)
-input_call (Arrival time link packet) made s = s
+input_call input made s = grind (arith, nat_tests)
 
 module _ (site : Site) (valid : IsSite site) where
   entry_call : (e : Entry) → IsSizedPlace e → IfSome (call_of e) IsSizedCall
-  entry_call (Took input made) k = input_call input made k.0
-  entry_call (Started time link class packet) k = tt
+  entry_call e k = grind (arith, nat_tests)
 
   all_met : (before : List Entry) → AllByRecursion IsSizedPlace before → HasMet site before
   all_met before s plan is =
@@ -121,10 +93,7 @@ module _ (site : Site) (valid : IsSite site) where
 
   -- what a node makes of what is within the sizes is so too
   pub place_sized : (before : List Entry) (e : Entry) → AllByRecursion IsSizedPlace before → IsMade IsSizedInput site before e → IsSizedPlace e
-  place_sized before (Took input made) s m = (
-    m.1,
-    took_sized site before input made valid (all_met before s) (λ plan. files_sized plan before (each-weaker IsSizedPlace IsSizedTaken taken before s)) m.1 m.0,
-  )
+  place_sized before (Took input made) s m = search (arith, nat_tests, took_sized, all_met, files_sized, each-weaker, taken)
   place_sized before (Started time link class packet) s m = starts_good IsSizedPacket IsSizedPlace leaves site before time link class packet s m
 
   -- ## the whole log

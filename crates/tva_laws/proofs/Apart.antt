@@ -1,12 +1,11 @@
 -- The hosts of a valid configuration have addresses of their own.
-use Rattle.tva_laws.proofs.Common.{◌≡◌, ℕ, zero, suc, List, [], ◌∷◌, Contains, Option, Some, None, refl, sym, ap, subst, ◌∙◌, arith, slice_get, option_map, same_Some, HostPlan, AreDistinct, Config, NodePlan, IsConfig, addresses_at, Site, site_of, links_out, IsHostAt}
+use Rattle.tva_laws.proofs.Common.{◌≡◌, ℕ, zero, suc, List, [], ◌∷◌, Contains, Option, Some, refl, sym, ap, subst, ◌∙◌, arith, slice_get, option_map, same_Some, HostPlan, AreDistinct, Config, NodePlan, IsConfig, addresses_at, Site, site_of, links_out, IsHostAt, nat_tests}
 use Rattle.tva_plan.specs.declared.config.NodePlan.TheVariants as plans
 
 contained : (ps : List NodePlan) (n : ℕ) (p : HostPlan) → slice_get ps n ≡ Some (plans.Host p) → Contains (addresses_at ps) p.address
 contained [] n p here = absurd (cc)
-contained (plans.Router q ∷ ps) zero p here = absurd (cc)
+contained (z0 ∷ ps) zero p here = grind (arith, nat_tests)
 contained (plans.Router q ∷ ps) (suc n) p here = contained ps n p here
-contained (plans.Host q ∷ ps) zero p here = let same : q ≡ p = cc in (0, omega arith, ap (λ (h : HostPlan). h.address) same)
 contained (plans.Host q ∷ ps) (suc n) p here = let c = contained ps n p here in (suc c.0, (let l = c.1 in omega (arith, l)), c.2)
 
 other : (ps : List NodePlan) (q p : HostPlan) (n : ℕ) → AreDistinct (q.address ∷ addresses_at ps)
@@ -28,14 +27,9 @@ one_place (plans.Host r ∷ ps) (suc n) (suc m) p q d here there same = ap suc (
 
 plan_by : (config : Config) (n : ℕ) (site : Site) (plan : HostPlan) (o : Option NodePlan)
     → option_map (λ p. site_of n p (links_out n config.links)) o ≡ Some site → site.plan ≡ plans.Host plan → o ≡ Some (plans.Host plan)
-plan_by config n site plan None h e = absurd (cc)
-plan_by config n site plan (Some p) h e =
-    ap Some (ap (λ (s : Site). s.plan) (same_Some (site_of n p (links_out n config.links)) site h) ∙ e)
+plan_by config n site plan o h e = grind (arith, nat_tests, same_Some)
 
 -- hosts of one address are one
 pub hosts_apart : (config : Config) (n m : ℕ) (p q : HostPlan) → IsConfig config → IsHostAt config n p → IsHostAt config m q
     → p.address ≡ q.address → n ≡ m
-hosts_apart config n m p q valid here there same =
-    one_place config.nodes n m p q valid.addresses
-    (plan_by config n here.0 p (slice_get config.nodes n) here.1 here.2)
-    (plan_by config m there.0 q (slice_get config.nodes m) there.1 there.2) same
+hosts_apart config n m p q valid here there same = grind (arith, nat_tests, one_place, plan_by)

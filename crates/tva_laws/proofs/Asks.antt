@@ -1,25 +1,10 @@
 -- Asks and grants among deals, as the contacts of a sender have them, and when they came to a router.
-use Rattle.tva_laws.proofs.Common.{◌≡◌, ◌⊎◌, inl, inr, ℕ, Bool, true, false, cond, eqb, List, [], ◌∷◌, ◌++◌, map, Option, Some, None, refl, ap, ap₂, sym, subst, ◌∙◌, append_assoc, append-nil, option_or, option_map, option_and_then, AllByRecursion, find, eqb-true, same_Some, PacketId, Rights, Kind, Carried, PacketData, Contact, Ask, Taking, taking_in, last_taking, asks, asked_at, time, and_true, Deal, Prepared, Granted, Noticed, Coming, asks_kind, asks_in, ask_id, last_ask_id, same_id, come_as, ask_coming, IsNoGrant, ask_came, granted_by, grant_came}
-use Rattle.tva_shim.specs.declared.kinds.Kind.TheVariants as kinds
+use Rattle.tva_laws.proofs.Common.{◌≡◌, ◌⊎◌, inl, inr, ℕ, Bool, true, false, cond, List, [], ◌∷◌, ◌++◌, map, Option, Some, None, refl, ap, ap₂, sym, ◌∙◌, append_assoc, append-nil, option_or, option_map, AllByRecursion, find, eqb-true, same_Some, PacketId, Rights, PacketData, Contact, Ask, Taking, last_taking, asked_at, time, and_true, Deal, Prepared, Granted, Noticed, Coming, asks_in, ask_id, last_ask_id, same_id, come_as, ask_coming, IsNoGrant, ask_came, granted_by, grant_came, arith, nat_tests}
 use Rattle.tva_shim.specs.declared.packets.Carried.TheVariants as carried
-use Rattle.tva_sender.specs.declared.shape.Shape.TheVariants as shapes
 use Rattle.tva_sender.specs.Contacts as contact
-use Rattle.tva_laws.proofs.Dealt.{shape_of_kind, shape_in, contact_of}
+use Rattle.tva_laws.proofs.Dealt.{shape_in, contact_of}
 
 -- ## the last ask
-
-asks_kind_is : (kind : Kind) → asks (shape_of_kind kind) ≡ asks_kind kind
-asks_kind_is (kinds.Request entries) = refl
-asks_kind_is (kinds.List shown) = refl
-asks_kind_is (kinds.Nonce nonce) = refl
-asks_kind_is (kinds.Renewal shown) = refl
-
-asks_is : (c : Carried) → asks (shape_in c) ≡ asks_in c
-asks_is carried.Nothing = refl
-asks_is (carried.Shim shim) =
-    elim shim.demoted as (λ b. asks (cond b shapes.Legacy (shape_of_kind shim.kind)) ≡ cond b false
-    (asks_kind shim.kind)) [ true ↦ refl | false ↦ asks_kind_is shim.kind ]
-asks_is (carried.Malformed size) = refl
 
 -- an ask with its time
 pub record Asked : Type 0 where
@@ -36,17 +21,13 @@ last_asked [] = None
 last_asked (d ∷ ds) = option_or (last_asked ds) (asked_in d)
 
 map_cond : {X Y : Type 0} (f : X → Y) (b : Bool) (x : X) → option_map f (cond b (Some x) None) ≡ cond b (Some (f x)) None
-map_cond f true x = refl
-map_cond f false x = refl
+map_cond f b x = grind (arith, nat_tests)
 
 map_or : {X Y : Type 0} (f : X → Y) (o p : Option X) → option_map f (option_or o p) ≡ option_or (option_map f o) (option_map f p)
-map_or f None p = refl
-map_or f (Some x) p = refl
+map_or f o p = grind (arith, nat_tests)
 
 asked_id : (d : Deal) → ask_id d ≡ option_map (λ (a : Asked). a.id) (asked_in d)
-asked_id (Prepared t p) = let a : Asked = record { time = t; id = p.id } in sym (map_cond (λ (x : Asked). x.id) (asks_in p.carried) a)
-asked_id (Granted rights caps) = refl
-asked_id Noticed = refl
+asked_id d = grind (arith, nat_tests)
 
 pub last_id : (ds : List Deal) → last_ask_id ds ≡ option_map (λ (a : Asked). a.id) (last_asked ds)
 last_id [] = refl
@@ -54,21 +35,11 @@ last_id (d ∷ ds) = ap₂ option_or (last_id ds) (asked_id d) ∙ sym (map_or (
 
 asked_time : (d : Deal) (after : List Contact) → option_map (λ (a : Ask). time a.time) (contact.ask_in (contact_of d) after)
     ≡ option_map (λ (a : Asked). time a.time) (asked_in d)
-asked_time (Prepared t p) after =
-    let a : Ask = record { time = t; after = after } in
-    let b : Asked = record { time = t; id = p.id } in
-    map_cond (λ (x : Ask). time x.time) (asks (shape_in p.carried)) a ∙
-    (ap (λ (c : Bool). cond c (Some (time t)) None) (asks_is p.carried) ∙ sym
-    (map_cond (λ (x : Asked). time x.time) (asks_in p.carried) b))
-asked_time (Granted rights caps) after = refl
-asked_time Noticed after = refl
+asked_time d after = grind (arith, nat_tests, shape_in)
 
 pub last_time : (ds : List Deal) → asked_at (map contact_of ds) ≡ option_map (λ (a : Asked). time a.time) (last_asked ds)
 last_time [] = refl
-last_time (d ∷ ds) =
-    map_or (λ (a : Ask). time a.time) (contact.last_ask (map contact_of ds)) (contact.ask_in (contact_of d) (map contact_of ds))
-    ∙ (ap₂ option_or (last_time ds) (asked_time d (map contact_of ds)) ∙ sym
-    (map_or (λ (a : Asked). time a.time) (last_asked ds) (asked_in d)))
+last_time (d ∷ ds) = grind (arith, nat_tests, map_or, contact_of, asked_time, last_time ds)
 
 -- where it was prepared
 pub record AskedAt (ds : List Deal) (a : Asked) : Type 0 where
@@ -88,15 +59,12 @@ asked_cond true t p ds a e =
       packet = p;
       after = ds;
       is = ap (λ (y : Asked). Prepared y.time p ∷ ds) same;
-      same = ap
-          (λ (y : Asked). y.id) same;
+      same = search;
     }
 asked_cond false t p ds a e = absurd (cc)
 
 asked_here : (d : Deal) (ds : List Deal) (a : Asked) → asked_in d ≡ Some a → AskedAt (d ∷ ds) a
-asked_here (Prepared t p) ds a e = asked_cond (asks_in p.carried) t p ds a e
-asked_here (Granted rights caps) ds a e = absurd (cc)
-asked_here Noticed ds a e = absurd (cc)
+asked_here d ds a e = grind (arith, nat_tests, asked_cond)
 
 asked_or : (d : Deal) (ds : List Deal) (a : Asked) (o : Option Asked) → ((b : Asked) → o ≡ Some b → AskedAt ds b)
     → option_or o (asked_in d) ≡ Some a → AskedAt (d ∷ ds) a
@@ -112,16 +80,11 @@ asked_place (d ∷ ds) a e = asked_or d ds a (last_asked ds) (λ b k. asked_plac
 -- ## what came
 
 pub id_is : (a b : PacketId) → same_id a b ≡ true → a ≡ b
-id_is a b e =
-    let parts = and_true (eqb a.node b.node) (eqb a.ordinal b.ordinal) e in
-    let node : a.node ≡ b.node = eqb-true a.node b.node parts.0 in
-    let ordinal : a.ordinal ≡ b.ordinal = eqb-true a.ordinal b.ordinal parts.1 in
-    (λ i. record { node = node i; ordinal = ordinal i })
+id_is a b e = grind (arith, nat_tests, and_true, eqb-true)
 
 found_here : (p : Coming → Bool) (P : Coming → Type 0) (x y : Coming) (xs : List Coming) (b : Bool) → p x ≡ b → P x
     → (find p xs ≡ Some y → P y × (p y ≡ true)) → cond b (Some x) (find p xs) ≡ Some y → P y × (p y ≡ true)
-found_here p P x y xs true is k rest e = let same = same_Some x y e in (subst P same k, subst (λ (z : Coming). p z ≡ true) same is)
-found_here p P x y xs false is k rest e = rest e
+found_here p P x y xs b is k rest e = grind (arith, nat_tests, same_Some)
 
 found : (p : Coming → Bool) (P : Coming → Type 0) (xs : List Coming) (y : Coming) → AllByRecursion P xs → find p xs ≡ Some y → P y
     × (p y ≡ true)
@@ -147,29 +110,22 @@ pub came-granted : (seen : List Coming) (before ds : List Deal) (rights : Rights
     → ask_came seen (before ++ ds) ≡ Some came
     → grant_came seen before (ds ++ Granted rights caps ∷ []) ≡ Some came
 came-granted seen before [] rights caps came e = ap (ask_came seen) (sym (append-nil before)) ∙ e
-came-granted seen before (d ∷ ds) rights caps came e =
-    ap (λ (o : Option ℕ). option_or o (granted_by seen before d))
-    (came-granted seen (before ++ d ∷ []) ds rights caps came (ap (ask_came seen) (append_assoc before (d ∷ []) ds) ∙ e))
+came-granted seen before (d ∷ ds) rights caps came e = grind (arith, nat_tests, append_assoc, came-granted seen (before ++ d ∷ []) ds rights caps came (ap (ask_came seen) (append_assoc before (d ∷ []) ds) ∙ e))
 
 no_grant : (seen : List Coming) (before : List Deal) (d : Deal) → IsNoGrant d → granted_by seen before d ≡ None
-no_grant seen before (Prepared t p) k = refl
-no_grant seen before (Granted rights caps) k = absurd k
-no_grant seen before Noticed k = refl
+no_grant seen before d k = grind (arith, nat_tests)
 
 -- and anything else changes nothing
 pub came-other : (seen : List Coming) (before ds : List Deal) (d : Deal) → IsNoGrant d
     → grant_came seen before (ds ++ d ∷ []) ≡ grant_came seen before ds
 came-other seen before [] d k = no_grant seen before d k
-came-other seen before (x ∷ ds) d k =
-    ap (λ (o : Option ℕ). option_or o (granted_by seen before x)) (came-other seen (before ++ x ∷ []) ds d k)
+came-other seen before (x ∷ ds) d k = search (came-other seen (before ++ x ∷ []) ds d k)
 
 -- nor do deals without a grant
 pub came-under : (seen : List Coming) (first under : List Deal) → AllByRecursion IsNoGrant under
     → grant_came seen [] (first ++ under) ≡ grant_came seen [] first
 came-under seen first [] k = ap (grant_came seen []) (append-nil first)
-came-under seen first (d ∷ ds) k =
-    ap (grant_came seen []) (sym (append_assoc first (d ∷ []) ds))
-    ∙ (came-under seen (first ++ d ∷ []) ds k.1 ∙ came-other seen [] first d k.0)
+came-under seen first (d ∷ ds) k = grind (arith, nat_tests, append_assoc, came-other, came-under seen (first ++ d ∷ []) ds k.1)
 
 -- the last grant among deals
 pub record LastAt (ds : List Deal) : Type 0 where
@@ -202,18 +158,12 @@ split_last (d ∷ ds) = split_by d ds (split_last ds)
 -- what stands behind the last grant
 pub behind_last : (ds : List Deal) (l : LastAt ds) (tail : List Deal)
     → ds ++ tail ≡ (l.first ++ Granted l.rights l.caps ∷ []) ++ (l.under ++ tail)
-behind_last ds l tail =
-    ap (λ (es : List Deal). es ++ tail) l.is
-    ∙ (append_assoc l.first (Granted l.rights l.caps ∷ l.under) tail
-    ∙ sym (append_assoc l.first (Granted l.rights l.caps ∷ []) (l.under ++ tail)))
+behind_last ds l tail = grind (arith, nat_tests, append_assoc)
 
 -- when its ask came
 pub came-last : (seen : List Coming) (ds : List Deal) (l : LastAt ds) (came : ℕ) → ask_came seen l.first ≡ Some came
     → grant_came seen [] ds ≡ Some came
-came-last seen ds l came e =
-    ap (grant_came seen []) (l.is ∙ sym (append_assoc l.first (Granted l.rights l.caps ∷ []) l.under))
-    ∙ (came-under seen (l.first ++ Granted l.rights l.caps ∷ []) l.under l.none
-    ∙ came-granted seen [] l.first l.rights l.caps came e)
+came-last seen ds l came e = search (append_assoc l.first (Granted l.rights l.caps ∷ []) l.under, came-under seen (l.first ++ Granted l.rights l.caps ∷ []) l.under l.none, came-granted seen [] l.first l.rights l.caps came e)
 
 -- when an ask came, what came for it
 pub record CameFor (seen : List Coming) (ds : List Deal) (came : ℕ) : Type 0 where
@@ -223,25 +173,11 @@ pub record CameFor (seen : List Coming) (ds : List Deal) (came : ℕ) : Type 0 w
   pub found : come_as seen asked.id ≡ Some coming
   pub time : coming.time ≡ came
 
-came_for : (seen : List Coming) (ds : List Deal) (came : ℕ) (a : Asked) (o : Option Coming) → last_asked ds ≡ Some a
-    → come_as seen a.id ≡ o → option_map (λ (x : Coming). x.time) o ≡ Some came → CameFor seen ds came
-came_for seen ds came a None l e t = absurd (cc)
-came_for seen ds came a (Some x) l e t = record { asked = a; coming = x; last = l; found = e; time = same_Some x.time came t }
-
-came_asked : (seen : List Coming) (ds : List Deal) (came : ℕ) (o : Option Asked) → last_asked ds ≡ o
-    → option_map (λ (x : Coming). x.time) (option_and_then (come_as seen) (option_map (λ (a : Asked). a.id) o)) ≡ Some came
-    → CameFor seen ds came
-came_asked seen ds came None l e = absurd (cc)
-came_asked seen ds came (Some a) l e = came_for seen ds came a (come_as seen a.id) l refl e
-
 pub ask_is : (seen : List Coming) (ds : List Deal) (came : ℕ) → ask_came seen ds ≡ Some came → CameFor seen ds came
-ask_is seen ds came e =
-    came_asked seen ds came (last_asked ds) refl (sym
-    (ap (λ (o : Option PacketId). option_map (λ (x : Coming). x.time) (option_and_then (come_as seen) o)) (last_id ds)) ∙ e)
+ask_is seen ds came e = grind (arith, nat_tests, last_id ds)
 
 pub coming_is : (seen : List Coming) (ds : List Deal) (came : ℕ) (c : CameFor seen ds came) → ask_coming seen ds ≡ Some c.coming
-coming_is seen ds came c =
-    ap (option_and_then (come_as seen)) (last_id ds ∙ ap (option_map (λ (a : Asked). a.id)) c.last) ∙ c.found
+coming_is seen ds came c = grind (arith, nat_tests, last_id ds)
 
 -- ## the rights of the last grant
 
@@ -255,9 +191,7 @@ last_rights [] = None
 last_rights (d ∷ ds) = option_or (last_rights ds) (rights_in d)
 
 rights_other : (d : Deal) → IsNoGrant d → rights_in d ≡ None
-rights_other (Prepared time packet) k = refl
-rights_other (Granted rights caps) k = absurd k
-rights_other Noticed k = refl
+rights_other d k = grind (arith, nat_tests)
 
 pub rights_none : (ds : List Deal) → AllByRecursion IsNoGrant ds → last_rights ds ≡ None
 rights_none [] k = refl
@@ -269,16 +203,7 @@ pub rights-under : (first : List Deal) (rights : Rights) (caps : List ℕ) (unde
 rights-under [] rights caps under k = ap (λ (o : Option Rights). option_or o (Some rights)) (rights_none under k)
 rights-under (d ∷ ds) rights caps under k = ap (λ (o : Option Rights). option_or o (rights_in d)) (rights-under ds rights caps under k)
 
-rights_is : (before : List Contact) (d : Deal) (after : List Contact)
-    → option_map (λ (t : Taking). t.rights) (taking_in before (contact_of d) after) ≡ rights_in d
-rights_is before (Prepared t p) after = refl
-rights_is before (Granted rights caps) after = refl
-rights_is before Noticed after = refl
-
 pub last_rights_are : (before : List Contact) (ds : List Deal)
     → option_map (λ (t : Taking). t.rights) (last_taking before (map contact_of ds)) ≡ last_rights ds
 last_rights_are before [] = refl
-last_rights_are before (d ∷ ds) =
-    map_or (λ (t : Taking). t.rights) (last_taking (before ++ contact_of d ∷ []) (map contact_of ds))
-    (taking_in before (contact_of d) (map contact_of ds))
-    ∙ ap₂ option_or (last_rights_are (before ++ contact_of d ∷ []) ds) (rights_is before d (map contact_of ds))
+last_rights_are before (d ∷ ds) = grind (arith, nat_tests, map_or, contact_of, last_rights_are (before ++ contact_of d ∷ []) ds)

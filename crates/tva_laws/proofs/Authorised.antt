@@ -1,7 +1,6 @@
 -- On a steady path the router authorises what shows a grant.
-use Rattle.tva_laws.proofs.Common.{◌≡◌, ◌≤◌, ◌<◌, ◌⊎◌, inl, inr, ℕ, ◌+◌, ◌*◌, Bool, true, false, not, ◌&&◌, ◌||◌, cond, ltb, leb, eqb, List, [], ◌∷◌, ◌++◌, Option, Some, None, refl, ap, sym, subst, ◌∙◌, arith, append_assoc, append-nil, IsSomeAnd, filter, sum_by, AllByRecursion, IfSome, option_map, unwrap_or, nat_tests, sum_by-cons, sum_by-append, Flow, Grant, Rights, router_second, Verdict, Charge, same_grant, of_flow, last_or, last_charge, bytes_under, bytes_of, end_of, lives, restarts, run, run_of, used, holder, living_count, supersedes, list_verdict, nonce_rows, nonce_verdict, same_grant-self, and_false_right, Shape, Contact, Taking, Use, uses_in, uses, after_notice, since_notice, first_nonce, life_of, asked_at, grant_held, list_length, nonce_length, length_of, fits, is_alive, nonce_of, held, may_ask, IsPrepared, IsPlayed, each-passes, each-append, Mile, Went, Got, Told, contacts, paid_in, charges_in, since_got, after_told, since_notified, Way, grant_at, IsPaid, AreMiles, AreAuthorised, is_since, IsKnown, IsSteady, IsNarrow, IsListTaken, IsNonceTaken, IsTaken}
-use Rattle.std.proofs.Common.{eq-eqb}
-use Rattle.tva_flow.specs.declared.verdicts.Verdict.TheVariants.{Authorised, Expired, OverN, UnknownNonce, CacheFull, Superseded}
+use Rattle.tva_laws.proofs.Common.{◌≡◌, ◌≤◌, ◌<◌, ◌⊎◌, inl, inr, ℕ, ◌+◌, ◌*◌, Bool, true, false, cond, List, [], ◌∷◌, ◌++◌, Option, Some, None, refl, ap, sym, subst, ◌∙◌, arith, append_assoc, append-nil, IsSomeAnd, filter, sum_by, AllByRecursion, IfSome, option_map, unwrap_or, nat_tests, sum_by-cons, sum_by-append, Grant, Rights, router_second, Charge, of_flow, last_or, last_charge, bytes_under, bytes_of, end_of, lives, run, used, holder, living_count, supersedes, list_verdict, nonce_rows, nonce_verdict, Shape, Contact, Taking, uses_in, uses, after_notice, since_notice, first_nonce, life_of, asked_at, grant_held, length_of, held, may_ask, IsPrepared, IsPlayed, each-passes, each-append, Mile, Went, Got, Told, contacts, charges_in, since_got, after_told, since_notified, Way, grant_at, AreMiles, AreAuthorised, is_since, IsKnown, IsSteady, IsNarrow, IsListTaken, IsNonceTaken, IsTaken}
+use Rattle.tva_flow.specs.declared.verdicts.Verdict.TheVariants.{Authorised}
 use Rattle.tva_sender.specs.declared.shape.Shape.TheVariants as shape
 use Rattle.tva_sender.specs.Contacts.{Prepared}
 use Rattle.tva_sender.specs.Played.{IsNext, AreNext}
@@ -14,16 +13,10 @@ use Rattle.tva_laws.proofs.EachMile.{valid, time-left, Spends, SpendsNonce, by-l
 -- the bytes that are used are at most those of all charges of the flow
 run-bytes : (g : Grant) (before cs : List Charge) → bytes_of g (run before cs) ≤ bytes_of g cs
 run-bytes g before [] = omega arith
-run-bytes g before (c ∷ cs) = elim (restarts (before ++ c ∷ []) cs) as (λ b. bytes_of g (cond b (run (before ++ c ∷ []) cs) (c ∷ cs)) ≤ bytes_of g (c ∷ cs)) [
-  | true ↦ omega (arith, run-bytes g (before ++ c ∷ []) cs, sum_by-cons (bytes_under g) c cs)
-  | false ↦ omega arith
-]
+run-bytes g before (c ∷ cs) = grind (arith, nat_tests, sum_by-cons (bytes_under g) c cs, run-bytes g (before ++ c ∷ []) cs)
 
 used-bytes : (h : List Charge) (g : Grant) (now : ℕ) → used h g now ≤ bytes_of g (of_flow g.flow h)
-used-bytes h g now = elim (lives h g.flow now) as (λ b. cond b (bytes_of g (run_of h g.flow)) 0 ≤ bytes_of g (of_flow g.flow h)) [
-  | true ↦ run-bytes g [] (of_flow g.flow h)
-  | false ↦ omega arith
-]
+used-bytes h g now = grind (arith, nat_tests, run-bytes)
 
 -- ## charges of no earlier second
 
@@ -34,28 +27,16 @@ bytes-since w rights came (c ∷ cs) = by (bytes-since w rights came cs) (is_sin
   where
     by : bytes_of (grant_at w rights came) (filter (is_since w came) cs) ≡ bytes_of (grant_at w rights came) cs → (b : Bool) → is_since w came c ≡ b
         → bytes_of (grant_at w rights came) (cond b (c ∷ filter (is_since w came) cs) (filter (is_since w came) cs)) ≡ bytes_of (grant_at w rights came) (c ∷ cs)
-    by ih true e = omega (arith, sum_by-cons (bytes_under (grant_at w rights came)) c (filter (is_since w came) cs), sum_by-cons (bytes_under (grant_at w rights came)) c cs, ih)
-    by ih false e =
-        let early : c.grant.second < router_second w.offset came = grind (arith, nat_tests, e) in
-        let none : bytes_of (grant_at w rights came) (c ∷ []) ≡ 0 = bytes-none (grant_at w rights came) (c ∷ []) (early, tt) in
-        omega (arith, sum_by-cons (bytes_under (grant_at w rights came)) c [], sum_by-cons (bytes_under (grant_at w rights came)) c cs, none, ih)
+    by ih b e = grind (arith, nat_tests, sum_by-cons (bytes_under (grant_at w rights came)) c (filter (is_since w came) cs), sum_by-cons (bytes_under (grant_at w rights came)) c cs, sum_by-cons (bytes_under (grant_at w rights came)) c [])
 
 last-more : (c : Charge) (cs : List Charge) (d : Charge) → last_charge cs ≡ Some d → last_charge (c ∷ cs) ≡ Some d
-last-more c [] d e = absurd (cc)
-last-more c (x ∷ xs) d e = e
+last-more c cs d e = grind (arith, nat_tests)
 
 -- the last of all is the last of those that pass, where it passes
 pub last-passes : (p : Charge → Bool) (cs : List Charge) (d : Charge) → last_charge cs ≡ Some d → p d ≡ true → last_charge (filter p cs) ≡ Some d
 last-passes p [] d e k = absurd (cc)
-last-passes p (c ∷ []) d e k =
-    let same : c ≡ d = cc in
-    let passes : p c ≡ true = ap p same ∙ k in
-    subst (λ (b : Bool). last_charge (cond b (c ∷ []) []) ≡ Some d) (sym passes) e
-last-passes p (c ∷ x ∷ xs) d e k = by (last-passes p (x ∷ xs) d e k) (p c)
-  where
-    by : last_charge (filter p (x ∷ xs)) ≡ Some d → (b : Bool) → last_charge (cond b (c ∷ filter p (x ∷ xs)) (filter p (x ∷ xs))) ≡ Some d
-    by ih true = last-more c (filter p (x ∷ xs)) d ih
-    by ih false = ih
+last-passes p (c ∷ []) d e k = search
+last-passes p (c ∷ x ∷ xs) d e k = grind (arith, nat_tests, last-passes p (x ∷ xs) d e k)
 
 credits-passing : (p : Charge → Bool) (cs : List Charge) → sum_by credit_at (filter p cs) ≤ sum_by credit_at cs
 credits-passing p [] = omega arith
@@ -73,10 +54,6 @@ end-passing p (c ∷ cs) = by (end-passing p cs) (p c)
     by : end_of (filter p cs) ≤ end_of cs → (b : Bool) → end_of (cond b (c ∷ filter p cs) (filter p cs)) ≤ end_of (c ∷ cs)
     by ih true = omega (arith, ih, credits-passing p cs, sum_by-cons credit_at c cs, sum_by-cons credit_at c (filter p cs))
     by ih false = omega (arith, ih)
-
-none-ends : (cs : List Charge) → last_charge cs ≡ None → end_of cs ≡ 0
-none-ends [] e = refl
-none-ends (c ∷ cs) e = absurd (cc)
 
 -- ## what the steady path says of the last grant
 
@@ -98,70 +75,31 @@ facts w h ms k sent s bytes at st =
     let none : charges_in k.earlier ≡ [] =
     none-earlier w k.came (charges_in k.earlier) (charges_in k.own) k.old
     (subst (AllByRecursion (λ (c : Charge). is_since w k.came c ≡ true)) (all ∙ k.charges) (each-passes (is_since w k.came) (of_flow w.flow h))) in
-    let own : charges_in ms ≡ charges_in k.own = k.charges ∙ ap (λ (cs : List Charge). cs ++ charges_in k.own) none in
-    record {
-      behind = subst (λ (o : Option ℕ). IfSome o (λ came. came ≤ at)) k.came_is st.behind;
-      mine = all ∙ own;
-      grants = k.all.grants (inl none);
-    }
+    grind (arith, nat_tests)
 
 -- what the router has charged to the grant, with the packet, is within its units
 within : (w : Way) (h : List Charge) (ms : List Mile) (k : Holds w ms) (sent bytes nonce at : ℕ) → Facts w h ms k at → Spends w ms k sent bytes nonce
     → used h (grant_at w k.rights k.came) at + bytes ≤ 1024 * k.rights.n
 within w h ms k sent bytes nonce at f spends =
     let g = grant_at w k.rights k.came in
-    let mine : bytes_of g (filter (is_since w k.came) (of_flow w.flow h)) ≡ bytes_of g (charges_in k.own) = ap (bytes_of g) f.mine in
-    omega (
-      arith,
-      used-bytes h g at,
-      bytes-since w k.rights k.came (of_flow w.flow h),
-      mine,
-      bytes-own g (charges_in k.own) f.grants,
-      k.all.few,
-      spends.room,
-    )
+    grind (arith, nat_tests, used-bytes h g at, bytes-since w k.rights k.came (of_flow w.flow h), bytes-own g (charges_in k.own) f.grants)
 
 -- the last charge of the flow is of the last grant, unless it is of an earlier second
 holder-own : (w : Way) (h : List Charge) (ms : List Mile) (k : Holds w ms) (at : ℕ) → Facts w h ms k at → (P : Charge → Type 0) → AllByRecursion P (charges_in k.own)
     → (c : Charge) → holder h w.flow ≡ Some c → is_since w k.came c ≡ true → P c
-holder-own w h ms k at f P all c e since =
-    last-of P (charges_in k.own) c all (ap last_charge (sym f.mine) ∙ last-passes (is_since w k.came) (of_flow w.flow h) c e since)
+holder-own w h ms k at f P all c e since = grind (arith, nat_tests, last-of P (charges_in k.own) c all (ap last_charge (sym f.mine) ∙ last-passes (is_since w k.came) (of_flow w.flow h) c e since), last-passes (is_since w k.came) (of_flow w.flow h) c e since)
 
 -- the holder is of the grant, or of an earlier second
 abbrev IsOfOrBefore : Grant → Charge → Type 0
 IsOfOrBefore g c = (c.grant ≡ g) ⊎ (c.grant.second < g.second)
 
-not-by : (g : Grant) (c : Charge) → IsOfOrBefore g c → supersedes (Some c) g ≡ false
-not-by g c (inl e) = let same : same_grant c.grant g ≡ true = subst (λ (z : Grant). same_grant z g ≡ true) (sym e) (same_grant-self g) in ap (λ b. not b && leb g.second c.grant.second) same
-not-by g c (inr l) = let early : leb g.second c.grant.second ≡ false = grind (arith, nat_tests) in ap (λ b. not (same_grant c.grant g) && b) early ∙ and_false_right (not (same_grant c.grant g))
-
 not-superseded : (g : Grant) (o : Option Charge) → ((c : Charge) → o ≡ Some c → IsOfOrBefore g c) → supersedes o g ≡ false
-not-superseded g None k = refl
-not-superseded g (Some c) k = not-by g c (k c refl)
-
-list-rows : (l s o f : Bool) (a b c d : Verdict) → s ≡ false → o ≡ false → (l ≡ false → f ≡ false) → cond (l && s) a (cond o b (cond (not l && f) c d)) ≡ d
-list-rows true s o f a b c d e1 e2 e3 = rw (e1, e2) refl
-list-rows false s o f a b c d e1 e2 e3 = rw (e2, e3 refl) refl
+not-superseded g o k = grind (arith, nat_tests)
 
 list-passes : (slots : ℕ) (h : List Charge) (now : ℕ) (g : Grant) (bytes : ℕ) → supersedes (holder h g.flow) g ≡ false → used h g now + bytes ≤ 1024 * g.rights.n
     → (lives h g.flow now ≡ false → living_count h now < slots) → list_verdict slots h now g bytes ≡ Authorised g
 unfolding list_verdict
-list-passes slots h now g bytes late few room =
-    let fits : ltb (1024 * g.rights.n) (used h g now + bytes) ≡ false = grind (arith, nat_tests) in
-    let free : lives h g.flow now ≡ false → leb slots (living_count h now) ≡ false = λ e. (let r = room e in grind (arith, nat_tests, r)) in
-    list-rows (lives h g.flow now) (supersedes (holder h g.flow) g) (ltb (1024 * g.rights.n) (used h g now + bytes)) (leb slots (living_count h now)) Superseded OverN CacheFull (Authorised g) late fits free
-
-nonce-choice : (l s e o : Bool) (a b c d : Verdict) → l ≡ true → s ≡ true → e ≡ false → o ≡ false → cond (not l || not s) a (cond e b (cond o c d)) ≡ d
-nonce-choice l s e o a b c d e1 e2 e3 e4 = rw (e1, e2, e3, e4) refl
-
-nonce-passes : (offset : ℕ) (h : List Charge) (now : ℕ) (f : Flow) (nonce bytes : ℕ) (c : Charge) (g : Grant) → c.grant ≡ g → lives h f now ≡ true → c.nonce ≡ nonce
-    → router_second offset now < g.second + g.rights.t → used h g now + bytes ≤ 1024 * g.rights.n → nonce_rows offset h now f nonce bytes (Some c) ≡ Authorised g
-nonce-passes offset h now f nonce bytes c g is living shows early few =
-    let known : eqb c.nonce nonce ≡ true = eq-eqb c.nonce nonce shows in
-    let lasts : leb (g.second + g.rights.t) (router_second offset now) ≡ false = grind (arith, nat_tests) in
-    let fits : ltb (1024 * g.rights.n) (used h g now + bytes) ≡ false = grind (arith, nat_tests) in
-    subst (λ (z : Grant). cond (not (lives h f now) || not (eqb c.nonce nonce)) UnknownNonce (cond (leb (z.second + z.rights.t) (router_second offset now)) Expired (cond (ltb (1024 * z.rights.n) (used h z now + bytes)) OverN (Authorised z))) ≡ Authorised g) (sym is)
-    (nonce-choice (lives h f now) (eqb c.nonce nonce) (leb (g.second + g.rights.t) (router_second offset now)) (ltb (1024 * g.rights.n) (used h g now + bytes)) UnknownNonce Expired OverN (Authorised g) living known lasts fits)
+list-passes slots h now g bytes late few room = grind (arith, nat_tests)
 
 taken-list : (w : Way) (h : List Charge) (ms : List Mile) (k : Holds w ms) (sent : ℕ) (s : Shape) (bytes at nonce : ℕ) → IsSteady w h ms sent s bytes at → Spends w ms k sent bytes nonce → IsListTaken w h ms k.rights k.came bytes at
 taken-list w h ms k sent s bytes at nonce st spends =
@@ -173,11 +111,7 @@ taken-list w h ms k sent s bytes at nonce st spends =
       | false ↦ (λ since. inr (grind (arith, nat_tests, since)))
     ] in
     let late : supersedes (holder h w.flow) g ≡ false = not-superseded g (holder h w.flow) (λ c e. one c e (is_since w k.came c) refl) in
-    record {
-      last = ap (option_map (λ (t : Taking). t.rights)) k.taking;
-      valid = valid w k.rights k.came at k.carried f.behind left;
-      verdict = list-passes w.slots h at g bytes late (within w h ms k sent bytes nonce at f spends) st.room;
-    }
+    grind (arith, nat_tests, valid w k.rights k.came at k.carried f.behind left, list-passes w.slots h at g bytes late (within w h ms k sent bytes nonce at f spends) st.room, within w h ms k sent bytes nonce at f spends)
 
 -- ## what counts for the life of a nonce
 
@@ -188,43 +122,20 @@ IsTimely w (Went sent s bytes (Some c)) = Pairs w.delay (uses_in (Prepared sent 
 IsTimely w (Got rights caps came) = Unit {0}
 IsTimely w Told = Unit {0}
 
-timely-paid : (w : Way) (before : List Mile) (sent : ℕ) (s : Shape) (bytes : ℕ) (c : Charge) → IsPaid w before sent s bytes c → Pairs w.delay (uses_in (Prepared sent s bytes)) (c ∷ [])
-timely-paid w before sent shape.Request bytes c k = absurd k.shown
-timely-paid w before sent (shape.List hd) bytes c k = (record { length = k.length; time = k.comes.from }, tt)
-timely-paid w before sent (shape.NonceOnly n) bytes c k = (record { length = k.length; time = k.comes.from }, tt)
-timely-paid w before sent (shape.Renewal hd) bytes c k = (record { length = k.length; time = k.comes.from }, tt)
-timely-paid w before sent shape.Legacy bytes c k = absurd k.shown
-
 timely : (w : Way) (before ms : List Mile) → AreMiles w before ms → AllByRecursion (IsTimely w) ms
 unfolding IsTimely
 timely w before [] k = tt
-timely w before (Went sent s bytes None ∷ ms) k = (tt, timely w (before ++ Went sent s bytes None ∷ []) ms k.1)
-timely w before (Went sent s bytes (Some c) ∷ ms) k = (timely-paid w before sent s bytes c k.0, timely w (before ++ Went sent s bytes (Some c) ∷ []) ms k.1)
-timely w before (Got rights caps came ∷ ms) k = (tt, timely w (before ++ Got rights caps came ∷ []) ms k.1)
-timely w before (Told ∷ ms) k = (tt, timely w (before ++ Told ∷ []) ms k.1)
-
-pairs-append : (delay : ℕ) (us : List Use) (cs : List Charge) (vs : List Use) (ds : List Charge) → Pairs delay us cs → Pairs delay vs ds → Pairs delay (us ++ vs) (cs ++ ds)
-pairs-append delay [] [] vs ds k l = l
-pairs-append delay [] (c ∷ cs) vs ds k l = absurd k
-pairs-append delay (u ∷ us) [] vs ds k l = absurd k
-pairs-append delay (u ∷ us) (c ∷ cs) vs ds k l = (k.0, pairs-append delay us cs vs ds k.1 l)
+timely w before (z0 ∷ ms) k = grind (arith, nat_tests, timely w (before ++ z0 ∷ []) ms k.1)
 
 -- where all that show a grant were authorised, uses and charges stand in pairs
 pairs-in : (w : Way) (ms : List Mile) → AllByRecursion (IsTimely w) ms → AreAuthorised ms → Pairs w.delay (uses (contacts ms)) (charges_in ms)
 unfolding IsTimely
 pairs-in w [] k a = tt
-pairs-in w (Went sent s bytes None ∷ ms) k a =
-    subst (λ (us : List Use). Pairs w.delay (us ++ uses (contacts ms)) (charges_in ms)) (sym a.0) (pairs-in w ms k.1 a.1)
-pairs-in w (Went sent s bytes (Some c) ∷ ms) k a =
-    pairs-append w.delay (uses_in (Prepared sent s bytes)) (c ∷ []) (uses (contacts ms)) (charges_in ms) k.0 (pairs-in w ms k.1 a.1)
-pairs-in w (Got rights caps came ∷ ms) k a = pairs-in w ms k.1 a.1
-pairs-in w (Told ∷ ms) k a = pairs-in w ms k.1 a.1
+pairs-in w (z0 ∷ ms) k a = grind (arith, nat_tests, pairs-in w ms k.1 a.1)
 
 each-got : (P : Mile → Type 0) (own ms : List Mile) → AllByRecursion P own → AllByRecursion P ms → AllByRecursion P (since_got own ms)
 each-got P own [] k l = k
-each-got P own (Went sent s bytes paid ∷ ms) k l = each-got P (own ++ Went sent s bytes paid ∷ []) ms (each-append P own (Went sent s bytes paid ∷ []) k (l.0, tt)) l.1
-each-got P own (Got rights caps came ∷ ms) k l = each-got P [] ms tt l.1
-each-got P own (Told ∷ ms) k l = each-got P (own ++ Told ∷ []) ms (each-append P own (Told ∷ []) k (l.0, tt)) l.1
+each-got P own (z0 ∷ ms) k l = grind (arith, nat_tests, each-append, each-got P (own ++ z0 ∷ []) ms (each-append P own (z0 ∷ []) k (l.0, tt)) l.1, each-got P [] ms tt l.1)
 
 -- what holds of all miles and of their charges holds of those since a notice
 record Rest (P : Mile → Type 0) (Q : Charge → Type 0) (ms rest : List Mile) : Type 0 where
@@ -232,34 +143,16 @@ record Rest (P : Mile → Type 0) (Q : Charge → Type 0) (ms rest : List Mile) 
   paid : AllByRecursion Q (charges_in ms) → AllByRecursion Q (charges_in rest)
   ends : end_of (charges_in rest) ≤ end_of (charges_in ms)
 
-pub each-behind : {X : Type 0} (P : X → Type 0) (xs ys : List X) → AllByRecursion P (xs ++ ys) → AllByRecursion P ys
-each-behind P [] ys k = k
-each-behind P (x ∷ xs) ys k = each-behind P xs ys k.1
-
 module _ (P : Mile → Type 0) (Q : Charge → Type 0) where
-  rest-more : (m : Mile) (ms rest : List Mile) → Rest P Q ms rest → Rest P Q (m ∷ ms) rest
-  rest-more m ms rest r = record {
-    each = λ k. r.each k.1;
-    paid = λ k. r.paid (each-behind Q (paid_in m) (charges_in ms) k);
-    ends = (let fewer = r.ends in omega (arith, fewer, end-behind (paid_in m) (charges_in ms)));
-  }
-
   rest-all : (ms : List Mile) → Rest P Q ms ms
   rest-all ms = record { each = λ k. k; paid = λ k. k; ends = omega arith }
 
-  if-more : (m : Mile) (ms : List Mile) (o : Option (List Mile)) → IfSome o (λ rest. Rest P Q ms rest) → IfSome o (λ rest. Rest P Q (m ∷ ms) rest)
-  if-more m ms None k = tt
-  if-more m ms (Some rest) k = rest-more m ms rest k
-
   after-rest : (ms : List Mile) → IfSome (after_told ms) (λ rest. Rest P Q ms rest)
   after-rest [] = tt
-  after-rest (Went sent s bytes paid ∷ ms) = if-more (Went sent s bytes paid) ms (after_told ms) (after-rest ms)
-  after-rest (Got rights caps came ∷ ms) = if-more (Got rights caps came) ms (after_told ms) (after-rest ms)
-  after-rest (Told ∷ ms) = rest-more Told ms ms (rest-all ms)
+  after-rest (z0 ∷ ms) = grind (arith, nat_tests, rest-all, after-rest ms)
 
   rest-by : (ms : List Mile) (o : Option (List Mile)) → IfSome o (λ rest. Rest P Q ms rest) → Rest P Q ms (unwrap_or o ms)
-  rest-by ms None k = rest-all ms
-  rest-by ms (Some rest) k = k
+  rest-by ms o k = grind (arith, nat_tests, rest-all)
 
   since-rest : (ms : List Mile) → Rest P Q ms (since_notified ms)
   since-rest ms = rest-by ms (after_told ms) (after-rest ms)
@@ -267,13 +160,10 @@ module _ (P : Mile → Type 0) (Q : Charge → Type 0) where
 -- the contacts since a notice are those of the miles since it
 told-notice : (ms : List Mile) → after_notice (contacts ms) ≡ option_map contacts (after_told ms)
 told-notice [] = refl
-told-notice (Went sent s bytes paid ∷ ms) = told-notice ms
-told-notice (Got rights caps came ∷ ms) = told-notice ms
-told-notice (Told ∷ ms) = refl
+told-notice (z0 ∷ ms) = grind (arith, nat_tests, told-notice ms)
 
 notified-by : (ms : List Mile) (o : Option (List Mile)) → contacts (unwrap_or o ms) ≡ unwrap_or (option_map contacts o) (contacts ms)
-notified-by ms None = refl
-notified-by ms (Some rest) = refl
+notified-by ms o = grind (arith, nat_tests)
 
 notified : (ms : List Mile) → contacts (since_notified ms) ≡ since_notice (contacts ms)
 notified ms = notified-by ms (after_told ms) ∙ ap (λ (o : Option (List Contact)). unwrap_or o (contacts ms)) (sym (told-notice ms))
@@ -283,15 +173,13 @@ nonce-by : (w : Way) (h : List Charge) (ms : List Mile) (k : Holds w ms) (sent b
     → lives h w.flow at ≡ true → router_second w.offset at < router_second w.offset k.came + k.rights.t
     → (o : Option Charge) → holder h w.flow ≡ o → IfSome o (λ c. is_since w k.came c ≡ true)
     → nonce_rows w.offset h at w.flow nonce bytes o ≡ Authorised (grant_at w k.rights k.came)
-nonce-by w h ms k sent bytes nonce at f by living early None e held =
-    absurd (let none = none-ends (of_flow w.flow h) e in let some : at < end_of (of_flow w.flow h) = grind (arith, nat_tests, living) in omega (arith, none, some))
+nonce-by w h ms k sent bytes nonce at f by living early None e held = grind (arith, nat_tests)
 nonce-by w h ms k sent bytes nonce at f by living early (Some c) e held =
     let g = grant_at w k.rights k.came in
     let us = uses (contacts k.own) in
     let grant : c.grant ≡ g = holder-own w h ms k at f (λ (d : Charge). d.grant ≡ g) f.grants c e held in
     let first : Some c.nonce ≡ first_nonce us = holder-own w h ms k at f (λ (d : Charge). Some d.nonce ≡ first_nonce us) k.all.nonces c e held in
-    let shows : c.nonce ≡ nonce = ap (λ (o : Option ℕ). unwrap_or o by.spends.offered) first ∙ sym by.spends.first in
-    nonce-passes w.offset h at w.flow nonce bytes c g grant living shows early (within w h ms k sent bytes nonce at f by.spends)
+    grind (arith, nat_tests, within w h ms k sent bytes nonce at f by.spends)
 
 taken-nonce : (w : Way) (h : List Charge) (ms : List Mile) (k : Holds w ms) (sent bytes at nonce : ℕ) → IsSteady w h ms sent (shape.NonceOnly nonce) bytes at → SpendsNonce w ms k sent bytes nonce → IsNonceTaken w h ms nonce k.came bytes at
 unfolding nonce_verdict
@@ -326,9 +214,7 @@ pub record Front (margin retry version : ℕ) (before cs : List Contact) (c : Co
 
 pub front : (margin retry version : ℕ) (before cs : List Contact) (c : Contact) → AreNext margin retry version before (cs ++ c ∷ []) → Front margin retry version before cs c
 front margin retry version before [] c k = record { front = tt; last = subst (λ z. IsNext margin retry version z c) (sym (append-nil before)) k.0 }
-front margin retry version before (d ∷ ds) c k =
-    let f = front margin retry version (before ++ d ∷ []) ds c k.1 in
-    record { front = (k.0, f.front); last = subst (λ z. IsNext margin retry version z c) (append_assoc before (d ∷ []) ds) f.last }
+front margin retry version before (d ∷ ds) c k = grind (arith, nat_tests, append_assoc, front margin retry version (before ++ d ∷ []) ds c k.1)
 
 pub none : (w : Way) → Stage w []
 none w = inl (record { taking = refl; charges = refl })
@@ -340,19 +226,12 @@ taken-by : (w : Way) (h : List Charge) (ms : List Mile) (sent body offered : ℕ
     → Stage w ms → bytes ≡ length_of w.version s body
     → Allows w.margin w.version (may_ask w.retry (asked_at (contacts ms)) sent) (grant_held (contacts ms)) sent body offered s → IsTaken w h ms s bytes at
 taken-by w h ms sent body offered shape.Request bytes at lists nonces stage sized a = tt
-taken-by w h ms sent body offered (shape.List hd) bytes at lists nonces (inl f) sized a =
-    absurd (no-taking (λ g. (hd ≡ held g offered) × (fits w.margin sent g (list_length w.version hd.caps body) ≡ true)) (contacts ms) f.taking a)
+taken-by w h ms sent body offered z0 bytes at lists nonces (inl f) sized a = grind (arith, nat_tests, no-taking)
 taken-by w h ms sent body offered (shape.List hd) bytes at lists nonces (inr k) sized a =
     let list = by-list w ms k sent body offered bytes hd sized a in
     subst (λ (o : Option ℕ). IsSomeAnd o (λ came. IsListTaken w h ms hd.rights came bytes at)) (sym k.came_is)
     (subst (λ (r : Rights). IsListTaken w h ms r k.came bytes at) (sym list.rights) (lists k hd.nonce list.spends))
-taken-by w h ms sent body offered (shape.NonceOnly n) bytes at lists nonces (inl f) sized a =
-    absurd (no-taking (λ g. (n ≡ nonce_of g offered) × (is_alive w.margin sent g ≡ true) × (fits w.margin sent g (nonce_length body) ≡ true)) (contacts ms) f.taking a)
-taken-by w h ms sent body offered (shape.NonceOnly n) bytes at lists nonces (inr k) sized a =
-    let by = by-nonce w ms k sent body offered bytes n sized a in
-    subst (λ (o : Option ℕ). IsSomeAnd o (λ came. IsNonceTaken w h ms n came bytes at)) (sym k.came_is) (nonces k n refl by)
-taken-by w h ms sent body offered (shape.Renewal hd) bytes at lists nonces (inl f) sized a =
-    absurd (no-taking (λ g. (hd ≡ held g offered) × (fits w.margin sent g (list_length w.version hd.caps body) ≡ true)) (contacts ms) f.taking a.1)
+taken-by w h ms sent body offered (shape.NonceOnly n) bytes at lists nonces (inr k) sized a = grind (arith, nat_tests, by-nonce)
 taken-by w h ms sent body offered (shape.Renewal hd) bytes at lists nonces (inr k) sized a =
     let list = by-list w ms k sent body offered bytes hd sized a.1 in
     subst (λ (o : Option ℕ). IsSomeAnd o (λ came. IsListTaken w h ms hd.rights came bytes at)) (sym k.came_is)
@@ -390,32 +269,13 @@ record Narrow (w : Way) (h : List Charge) (ms : List Mile) (k : Holds w ms) (at 
 narrow-facts : (w : Way) (h : List Charge) (ms : List Mile) (k : Holds w ms) (sent : ℕ) (s : Shape) (bytes at : ℕ) → IsNarrow w h ms sent s bytes at → Narrow w h ms k at
 narrow-facts w h ms k sent s bytes at st =
     let all : AllByRecursion (IsTimely w) k.own = subst (AllByRecursion (IsTimely w)) k.since_is (each-got (IsTimely w) [] ms tt (timely w [] ms st.miles)) in
-    let authorised : AreAuthorised k.own = subst AreAuthorised k.since_is st.authorised in
-    record {
-      behind = subst (λ (o : Option ℕ). IfSome o (λ came. came ≤ at)) k.came_is st.behind;
-      charges = st.charges ∙ k.charges;
-      grants = k.all.grants (inr authorised);
-      pairs = pairs-in w k.own all authorised;
-      authorised = authorised;
-    }
+    grind (arith, nat_tests, pairs-in)
 
 narrow-within : (w : Way) (h : List Charge) (ms : List Mile) (k : Holds w ms) (sent bytes nonce at : ℕ) → Narrow w h ms k at → Spends w ms k sent bytes nonce
     → used h (grant_at w k.rights k.came) at + bytes ≤ 1024 * k.rights.n
 narrow-within w h ms k sent bytes nonce at f spends =
     let g = grant_at w k.rights k.came in
-    let whole : bytes_of g (of_flow w.flow h) ≡ bytes_of g (charges_in k.earlier) + bytes_of g (charges_in k.own) =
-    ap (bytes_of g) f.charges ∙ sum_by-append (bytes_under g) (charges_in k.earlier) (charges_in k.own) in
-    let few = k.all.few in
-    let room = spends.room in
-    omega (
-      arith,
-      used-bytes h g at,
-      whole,
-      bytes-none g (charges_in k.earlier) k.old,
-      bytes-own g (charges_in k.own) f.grants,
-      few,
-      room,
-    )
+    grind (arith, nat_tests, sum_by-append (bytes_under g) (charges_in k.earlier) (charges_in k.own), used-bytes h g at, bytes-none g (charges_in k.earlier) k.old, bytes-own g (charges_in k.own) f.grants)
 
 narrow-list : (w : Way) (h : List Charge) (ms : List Mile) (k : Holds w ms) (sent : ℕ) (s : Shape) (bytes at nonce : ℕ) → IsNarrow w h ms sent s bytes at → Spends w ms k sent bytes nonce → IsListTaken w h ms k.rights k.came bytes at
 narrow-list w h ms k sent s bytes at nonce st spends =
@@ -427,11 +287,7 @@ narrow-list w h ms k sent s bytes at nonce st spends =
     (each-weaker (λ (c : Charge). c.grant ≡ g) (IsOfOrBefore g) (charges_in k.own) (λ c e. inl e) f.grants) in
     let late : supersedes (holder h w.flow) g ≡ false = not-superseded g (last_charge (of_flow w.flow h))
     (λ c e. last-of (IsOfOrBefore g) (charges_in k.earlier ++ charges_in k.own) c each (ap last_charge (sym f.charges) ∙ e)) in
-    record {
-      last = ap (option_map (λ (t : Taking). t.rights)) k.taking;
-      valid = valid w k.rights k.came at k.carried f.behind left;
-      verdict = list-passes w.slots h at g bytes late (narrow-within w h ms k sent bytes nonce at f spends) st.room;
-    }
+    grind (arith, nat_tests, valid w k.rights k.came at k.carried f.behind left, list-passes w.slots h at g bytes late (narrow-within w h ms k sent bytes nonce at f spends) st.room, narrow-within w h ms k sent bytes nonce at f spends)
 
 narrow-nonce : (w : Way) (h : List Charge) (ms : List Mile) (k : Holds w ms) (sent : ℕ) (s : Shape) (bytes at nonce : ℕ) → IsNarrow w h ms sent s bytes at → SpendsNonce w ms k sent bytes nonce → IsNonceTaken w h ms nonce k.came bytes at
 unfolding nonce_verdict
@@ -450,22 +306,7 @@ narrow-nonce w h ms k sent s bytes at nonce st by =
     let first : Some c.nonce ≡ first_nonce us = last-own (λ (d : Charge). Some d.nonce ≡ first_nonce us) (charges_in k.earlier) (charges_in k.own) c k.all.nonces some whole in
     let shows : c.nonce ≡ nonce = ap (λ (o : Option ℕ). unwrap_or o by.spends.offered) first ∙ sym by.spends.first in
     let rights : AllByRecursion (λ d. d.grant.rights ≡ k.rights) (charges_in k.own) = each-weaker (λ (d : Charge). d.grant ≡ g) (λ (d : Charge). d.grant.rights ≡ k.rights) (charges_in k.own) (λ d e. ap (λ (z : Grant). z.rights) e) f.grants in
-    let behind : end_of (charges_in k.own) ≤ end_of (of_flow w.flow h) = subst (λ (z : List Charge). end_of (charges_in k.own) ≤ end_of z) (sym f.charges) (end-behind (charges_in k.earlier) (charges_in k.own)) in
-    let until : at < end_of (of_flow w.flow h) = elim (pairs-end w.delay k.rights us (charges_in k.own) f.pairs rights) [
-      | inl none ↦ absurd (omega (arith, alive, none))
-      | inr more ↦ omega (arith, alive, more, behind, st.comes.until)
-    ] in
-    let living : lives h w.flow at ≡ true = grind (arith, nat_tests) in
-    record {
-      rights = k.rights;
-      last = ap (option_map (λ (t : Taking). t.rights)) k.taking;
-      verdict = subst (λ (o : Option Charge). nonce_rows w.offset h at w.flow nonce bytes o ≡ Authorised g) (sym last)
-          (nonce-passes w.offset h at w.flow nonce bytes c g grant living shows (second-within w.offset k.came at k.rights.t left)
-          (narrow-within w h ms k sent bytes nonce at f by.spends));
-    }
+    grind (arith, nat_tests, end-behind (charges_in k.earlier) (charges_in k.own), pairs-end w.delay k.rights us (charges_in k.own) f.pairs rights, narrow-within w h ms k sent bytes nonce at f by.spends)
 
 pub narrow-honest : (w : Way) (h : List Charge) (ms : List Mile) (sent : ℕ) (s : Shape) (bytes at : ℕ) → IsNarrow w h ms sent s bytes at → IsTaken w h ms s bytes at
-narrow-honest w h ms sent s bytes at st =
-    taken-played w h ms sent s bytes at st.rules st.played st.miles
-    (λ k nonce spends. narrow-list w h ms k sent s bytes at nonce st spends)
-    (λ k nonce is by. narrow-nonce w h ms k sent s bytes at nonce st by)
+narrow-honest w h ms sent s bytes at st = search (arith, nat_tests, taken-played, narrow-list, narrow-nonce)

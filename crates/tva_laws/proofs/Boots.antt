@@ -1,5 +1,5 @@
 -- What is in force in a boot of a router, and where what came in a boot stands among all that came.
-use Rattle.tva_laws.proofs.Common.{◌≡◌, ◌≤◌, ℕ, Bool, true, false, cond, List, [], ◌∷◌, ◌++◌, length, map, is_some, Option, Some, None, refl, ap, sym, ◌∙◌, inl, inr, arith, ◌==◌, filter, IsSomeAnd, option_map, option_and_then, filter_map, cons_option, cases_lt, le-leb, leb-true, eqb-true, length-filter, cond_some, Flow, Grant, Time, HostPlan, RouterPlan, last_of, has_come, boot_at, master_at, in_force, router_second, Charge, same_flow, of_flow, filter_swap, each-passes, each-filter, charges_of_boot, Entry, charged, charges, at_place, Deal, Prepared, Coming, comings, come_as, comings_at, since_noticed, shows_nonce, is_charged_since, charged_since, WasCharged, IsSteadyPath, LieInBoot}
+use Rattle.tva_laws.proofs.Common.{◌≡◌, ◌≤◌, ℕ, Bool, true, cond, List, [], ◌∷◌, ◌++◌, length, Option, Some, None, refl, ap, sym, ◌∙◌, arith, ◌==◌, filter, option_map, filter_map, cons_option, cases_lt, le-leb, leb-true, eqb-true, length-filter, cond_some, Flow, Grant, HostPlan, RouterPlan, boot_at, master_at, in_force, router_second, Charge, same_flow, of_flow, filter_swap, each-passes, each-filter, charges_of_boot, Entry, charged, charges, at_place, Deal, Coming, comings, comings_at, since_noticed, shows_nonce, charged_since, IsSteadyPath, LieInBoot, nat_tests}
 use Rattle.tva_laws.proofs.RisingLists.{place}
 use Rattle.tva_laws.proofs.Asks.{come_is}
 use Rattle.tva_laws.proofs.Comings.{paid_of}
@@ -10,10 +10,7 @@ use Rattle.tva_laws.proofs.Comings.{paid_of}
 module _ {X : Type 0} (p q : X → Bool) (more : (x : X) → p x ≡ true → q x ≡ true) where
   fewer_by : (x : X) (ps qs : List X) (a b : Bool) → (a ≡ true → b ≡ true) → length ps ≤ length qs
       → length (cond a (x ∷ ps) ps) ≤ length (cond b (x ∷ qs) qs)
-  fewer_by x ps qs true true m l = omega (arith, l)
-  fewer_by x ps qs true false m l = (let no : false ≡ true = m refl in absurd (cc))
-  fewer_by x ps qs false true m l = omega (arith, l)
-  fewer_by x ps qs false false m l = l
+  fewer_by x ps qs a b m l = grind (arith, nat_tests)
 
   fewer : (xs : List X) → length (filter p xs) ≤ length (filter q xs)
   fewer [] = omega arith
@@ -22,37 +19,24 @@ module _ {X : Type 0} (p q : X → Bool) (more : (x : X) → p x ≡ true → q 
   same_by : (x : X) (ps qs : List X) (a b : Bool) → (a ≡ true → b ≡ true) → length ps ≤ length qs
       → (length ps ≡ length qs → ps ≡ qs) → length (cond a (x ∷ ps) ps) ≡ length (cond b (x ∷ qs) qs)
       → cond a (x ∷ ps) ps ≡ cond b (x ∷ qs) qs
-  same_by x ps qs true true m l k e = ap (λ (zs : List X). x ∷ zs) (k (omega (arith, e)))
-  same_by x ps qs true false m l k e = (let no : false ≡ true = m refl in absurd (cc))
-  same_by x ps qs false true m l k e = absurd (omega (arith, l, e))
-  same_by x ps qs false false m l k e = k e
+  same_by x ps qs a b m l k e = grind (arith, nat_tests)
 
   filters_same : (xs : List X) → length (filter p xs) ≡ length (filter q xs) → filter p xs ≡ filter q xs
   filters_same [] e = refl
   filters_same (x ∷ xs) e = same_by x (filter p xs) (filter q xs) (p x) (q x) (more x) (fewer xs) (filters_same xs) e
 
 later_master : (plan : RouterPlan) (a b : ℕ) → a ≤ b → boot_at plan a ≡ boot_at plan b → master_at plan a ≡ master_at plan b
-later_master plan a b l e =
-    let p : Time × List ℕ → Bool = λ c. has_come a c.0 in
-    let q : Time × List ℕ → Bool = λ c. has_come b c.0 in
-    let more : (c : Time × List ℕ) → p c ≡ true → q c ≡ true =
-    λ c h. le-leb c.0.0 b (let k : c.0.0 ≤ a = leb-true c.0.0 a h in omega (arith, k, l)) in
-    ap (λ (cs : List (Time × List ℕ)). last_of plan.master (map (λ (c : Time × List ℕ). c.1) cs))
-    (filters_same p q more plan.restarts (length-filter p plan.restarts ∙ (e ∙ sym (length-filter q plan.restarts))))
+later_master plan a b l e = grind (arith, nat_tests, le-leb, leb-true, filters_same, length-filter)
 
 -- in one boot one master is in force
 pub one_master : (plan : RouterPlan) (a b : ℕ) → boot_at plan a ≡ boot_at plan b → (in_force plan a).master ≡ (in_force plan b).master
 unfolding in_force
-one_master plan a b e = elim (cases_lt a b) [
-  | inl l ↦ later_master plan a b (omega (arith, l)) e
-  | inr l ↦ sym (later_master plan b a l (sym e))
-]
+one_master plan a b e = grind (arith, nat_tests, cases_lt, later_master)
 
 -- ## what came in a boot
 
 picked_here : {X : Type 0} (x : X) (xs ys : List X) (b : Bool) → xs ≡ ys → cond b (x ∷ xs) xs ≡ cons_option (cond b (Some x) None) ys
-picked_here x xs ys true e = ap (λ zs. x ∷ zs) e
-picked_here x xs ys false e = e
+picked_here x xs ys b e = grind (arith, nat_tests)
 
 picked_is : {X : Type 0} (p : X → Bool) (xs : List X) → filter p xs ≡ filter_map (λ x. cond (p x) (Some x) None) xs
 picked_is p [] = refl
@@ -71,43 +55,19 @@ pub passing_place : {X : Type 0} (p : X → Bool) (xs front : List X) (x : X) (b
 passing_place {X = X} p xs front x back e =
     let pick : X → Option X = λ y. cond (p y) (Some y) None in
     let at = place pick xs front x back (sym (picked_is p xs) ∙ e) in
-    let same = cond_some (p at.at) at.at x at.gives in
-    record {
-      before = at.before;
-      after = at.after;
-      is = at.is ∙ ap (λ (y : X). at.before ++ y ∷ at.after) same.1;
-      passes = ap p (sym same.1) ∙ same.0;
-      front_is = picked_is p at.before ∙ at.front_is;
-    }
+    grind (arith, nat_tests, cond_some, picked_is)
 
 charged_then : (p : ℕ → Bool) (x : Coming) (cs : List Charge) (xs : List Coming) (o : Option Grant)
     → filter (λ (c : Charge). p c.time) cs ≡ filter_map paid_of xs
     → filter (λ (c : Charge). p c.time) (cons_option (option_map (charged x.time x.packet) o) cs)
     ≡ cond (p x.time) (cons_option (option_map (charged x.time x.packet) o) (filter_map paid_of xs)) (filter_map paid_of xs)
-charged_then p x cs xs None e = by (p x.time)
-  where
-    by : (b : Bool) → filter (λ (c : Charge). p c.time) cs ≡ cond b (filter_map paid_of xs) (filter_map paid_of xs)
-    by true = e
-    by false = e
-charged_then p x cs xs (Some g) e = by (p x.time)
-  where
-    by : (b : Bool) → cond b (charged x.time x.packet g ∷ filter (λ (c : Charge). p c.time) cs) (filter (λ (c : Charge). p c.time) cs)
-        ≡ cond b (charged x.time x.packet g ∷ filter_map paid_of xs) (filter_map paid_of xs)
-    by true = ap (λ (zs : List Charge). charged x.time x.packet g ∷ zs) e
-    by false = e
-
-came_then : (x : Coming) (xs : List Coming) (b : Bool)
-    → filter_map paid_of (cond b (x ∷ xs) xs) ≡ cond b (cons_option (paid_of x) (filter_map paid_of xs)) (filter_map paid_of xs)
-came_then x xs true = refl
-came_then x xs false = refl
+charged_then p x cs xs o e = grind (arith, nat_tests, paid_of)
 
 -- charges of some times are those of what came at these times
 pub charged_when : (p : ℕ → Bool) (seen : List Coming)
     → filter (λ (c : Charge). p c.time) (filter_map paid_of seen) ≡ filter_map paid_of (filter (λ (x : Coming). p x.time) seen)
 charged_when p [] = refl
-charged_when p (x ∷ xs) =
-    charged_then p x (filter_map paid_of xs) (filter (λ (y : Coming). p y.time) xs) x.charge (charged_when p xs)
-    ∙ sym (came_then x (filter (λ (y : Coming). p y.time) xs) (p x.time))
+charged_when p (x ∷ xs) = grind (arith, nat_tests, charged_then, paid_of, charged_when p xs)
 
 -- what is charged to a flow in a boot is what came in it
 pub boot_charges : (plan : RouterPlan) (f : Flow) (boot : ℕ) (log : List Entry) → of_flow f (charges log) ≡ filter_map paid_of (comings f log)
@@ -123,22 +83,4 @@ pub in_boot : (host : HostPlan) (router : RouterPlan) (delay : ℕ) (own : List 
     (x : Coming) (steady : IsSteadyPath host router delay own seen charged x) → shows_nonce x.packet.carried ≡ true
     → LieInBoot router (charged_since (router_second router.clock_offset steady.ask.time) (comings_at router x.time seen)) x.time
     (since_noticed steady.last.in_time.before)
-in_boot host router delay own seen charged x steady alone before sent packet after place shown =
-    by (come_as (charged_since (router_second router.clock_offset steady.ask.time) (comings_at router x.time seen)) packet.id) refl (was shown)
-  where
-    was : WasCharged (charged_since (router_second router.clock_offset steady.ask.time) (comings_at router x.time seen)) (Prepared sent packet)
-    was =
-        at_place (WasCharged (charged_since (router_second router.clock_offset steady.ask.time) (comings_at router x.time seen)))
-        (since_noticed steady.last.in_time.before) before (Prepared sent packet) after place (steady.known alone).paid
-
-    by : (o : Option Coming) → come_as (charged_since (router_second router.clock_offset steady.ask.time) (comings_at router x.time seen)) packet.id ≡ o
-        → is_some (option_and_then (λ (y : Coming). y.charge) o) ≡ true
-        → IsSomeAnd o (λ y. (boot_at router y.time ≡ boot_at router x.time) × (is_some y.charge ≡ true))
-    by None e k = absurd (cc)
-    by (Some y) e k =
-        let p : Coming → Bool = λ y. boot_at router y.time == boot_at router x.time in
-        let passes =
-        come_is (λ (y : Coming). p y ≡ true) (charged_since (router_second router.clock_offset steady.ask.time) (comings_at router x.time seen)) packet.id y
-        (each-filter (λ (y : Coming). p y ≡ true) (λ (y : Coming). is_charged_since (router_second router.clock_offset steady.ask.time) y.charge)
-        (comings_at router x.time seen) (each-passes p seen)) e in
-        (eqb-true (boot_at router y.time) (boot_at router x.time) passes.0, k)
+in_boot host router delay own seen charged x steady alone before sent packet after place shown = grind (arith, nat_tests, at_place, place, come_is, each-filter, each-passes, eqb-true)

@@ -1,20 +1,19 @@
 -- What came steadily is charged as the miles of its host have it, and what they take by the last grant is regular.
-use Rattle.tva_laws.proofs.Common.{◌≡◌, ◌≤◌, ℕ, Bool, true, false, leb, List, [], ◌∷◌, ◌++◌, map, Option, Some, refl, ap, sym, subst, ◌∙◌, arith, inl, inr, None, ap₂, filter, ◌==◌, option_map, IfSome, AllByRecursion, filter_map, eqb-true, Fate, Flow, Grant, Rights, RouterPlan, boot_at, in_force, router_second, PacketData, packet_length, Charge, same_flow, of_flow, last_charge, holder, flow_is, Shape, Contact, Taking, last_taking, asked_at, AreRising, charges_of_boot, charges_at, arrival, is_marked, force_clock, force_slots, Input, Arrived, Entry, Took, input_time, charged, charges, port_logs, handled, log_at, at_place, Mile, contacts, charges_in, last_came, IsPaid, IsTaken, Deal, Prepared, Coming, coming, comings, shows, ShowsMinted, comings_at, is_charged_since, charged_since, IsNoGrant, grant_came, Kind, may_ask, IsPrepared, IsPlayed, shows_grant, KeepsKind, Keeps}
+use Rattle.tva_laws.proofs.Common.{◌≡◌, ℕ, Bool, true, false, leb, List, [], ◌∷◌, ◌++◌, map, Option, Some, refl, ap, sym, subst, ◌∙◌, arith, inl, inr, None, filter, ◌==◌, option_map, AllByRecursion, filter_map, eqb-true, Fate, Flow, Grant, Rights, RouterPlan, boot_at, in_force, router_second, PacketData, packet_length, Charge, same_flow, of_flow, last_charge, holder, flow_is, Shape, Contact, AreRising, charges_of_boot, charges_at, arrival, is_marked, force_clock, force_slots, Input, Arrived, Entry, Took, input_time, charged, charges, port_logs, handled, log_at, at_place, Mile, contacts, charges_in, last_came, IsPaid, IsTaken, Deal, Prepared, Coming, coming, comings, shows, comings_at, is_charged_since, charged_since, IsNoGrant, grant_came, IsPrepared, IsPlayed, Keeps, nat_tests}
 use Rattle.tva_base.specs.declared.packet.Class.TheVariants as class
 use Rattle.tva_laws.proofs.Entries.{fate_is}
-use Rattle.tva_laws.proofs.RisingLists.{Rises, rises_from, rises_last}
+use Rattle.tva_laws.proofs.RisingLists.{rises_from, rises_last}
 use Rattle.tva_laws.proofs.Matching.{AreBefore, keys_push, come_key}
-use Rattle.tva_laws.proofs.Dealt.{shape_in, counted, contact_of, shape_of_kind}
+use Rattle.tva_laws.proofs.Dealt.{shape_in, counted, contact_of}
 use Rattle.tva_laws.proofs.Matching.{come_key}
 use Rattle.tva_laws.proofs.Asks.{last_rights, last_rights_are, LastAt, split_last, rights_none}
 use Rattle.tva_laws.proofs.Comings.{paid_of, charge_parts, claim, claim_at, flow_charges, since_paid}
 use Rattle.tva_laws.proofs.Authorised.{last-passes, front}
 use Rattle.tva_laws.proofs.Boots.{one_master, passing_place, boot_charges}
 use Rattle.tva_laws.proofs.Regular.{ShowsGrant, steady_regular}
-use Rattle.tva_laws.proofs.ShimsKept.{are_shims, same_length, at_router, shown_as_made, AreShims, shape_is}
+use Rattle.tva_laws.proofs.ShimsKept.{are_shims, same_length, at_router, shown_as_made, AreShims}
 use Rattle.tva_laws.proofs.Passage.{Passage, own, seen, last, now, ruling, boot, held, way, InTime, Steadily, keeps, came, kept_at, one_deal, played_to}
-use Rattle.tva_laws.proofs.Shown.{IsBare, none_held, allows}
-use Rattle.tva_shim.specs.declared.kinds.Kind.TheVariants as kinds
+use Rattle.tva_laws.proofs.Shown.{allows}
 use Rattle.tva_sender.specs.Contacts as contact
 
 -- a packet of a flow is regular, and charged to the last grant among these deals: with its rights, and of the router
@@ -30,15 +29,7 @@ pub record IsTakenByLast (router : RouterPlan) (flow : Flow) (seen : List Coming
   pub class : fate.class ≡ class.Regular
 
 nothing : {X Y : Type 0} (f : X → Y) (o : Option X) → option_map f o ≡ None → o ≡ None
-nothing f None e = refl
-nothing f (Some x) e = absurd (cc)
-
-not_bare : (made came : Kind) → KeepsKind made came → shows_grant came ≡ true → IsBare (shape_of_kind made) → ⊥
-not_bare (kinds.Request x) (kinds.Request y) k s b = cc
-not_bare (kinds.Request x) _ k s b = absurd k
-not_bare (kinds.List x) came k s b = b
-not_bare (kinds.Nonce x) came k s b = b
-not_bare (kinds.Renewal x) came k s b = b
+nothing f o e = grind (arith, nat_tests)
 
 module _ (m : Passage) where
   open m use {config, rows, until, logs, valid, given, run, sender, node, from, to, host, router, is_from, from_plan, is_to, to_plan}
@@ -77,19 +68,7 @@ module _ (m : Passage) where
       let hold : (d : Charge) → holder paid_then p.flow ≡ Some d → leb s d.grant.second ≡ true → last_charge (charges_in ms) ≡ Some d =
       λ d l k. ap last_charge (sym charged_then)
       ∙ last-passes later (of_flow packet.flow paid_then) d (ap (λ (z : Flow). last_charge (of_flow z paid_then)) fl ∙ l) k in
-      let a =
-      at_router (way m) rules p ms paid_then u fl (one_master router (now m) u (sym boots)) (sym (force_clock router u))
-      (λ (z : Grant). leb s z.second) hold in
-      let minted : IfSome (last_came ms) (λ v. ShowsMinted rules p p.carried v) =
-      subst (λ (z : Option ℕ). IfSome z (λ v. ShowsMinted rules p p.carried v)) (sym came_eq) cs.minted in
-      let after_delay = it.from in
-      let within = it.until in
-      record {
-        comes = record { from = omega (arith, sent, after_delay); until = omega (arith, sent, within) };
-        behind = subst (λ (z : Option ℕ). IfSome z (λ u. u ≤ input_time i)) (sym came_eq) cs.behind;
-        length = same_length q p k v;
-        shown = shown_as_made (way m) rules q p ms paid_then u a o (charged u p g) v refl refl since cl minted;
-      }
+      grind (arith, nat_tests, at_router, way, one_master, now, force_clock, same_length, shown_as_made)
 
   -- ## the packet
 
@@ -103,11 +82,7 @@ module _ (m : Passage) where
   pub played_here : (it : InTime m (last m)) (ms : List Mile) → contacts ms ≡ map contact_of it.before
       → IsPlayed host.margin host.retry host.version
       (contacts ms ++ contact.Prepared it.sent (shape_in it.packet.carried) (packet_length packet) ∷ [])
-  played_here it ms same =
-      let size : counted it.packet ≡ packet_length packet = sym (same_length it.packet packet (kept_here it) (shims_here it)) in
-      subst (IsPlayed host.margin host.retry host.version)
-      (ap₂ (λ (cs : List Contact) (n : ℕ). cs ++ contact.Prepared it.sent (shape_in it.packet.carried) n ∷ []) (sym same) size)
-      (played_to m it.before it.sent it.packet it.after it.place)
+  played_here it ms same = grind (arith, nat_tests, counted it.packet, same_length it.packet packet (kept_here it) (shims_here it), kept_here it, shims_here it, shape_in it.packet.carried, played_to m it.before it.sent it.packet it.after it.place)
 
   -- and its host had taken a grant
   some_grant : (it : InTime m (last m)) → AllByRecursion IsNoGrant it.before → ⊥
@@ -116,12 +91,7 @@ module _ (m : Passage) where
       let p : IsPrepared host.margin host.retry host.version cs it.sent (shape_in it.packet.carried) (counted it.packet) =
       (front host.margin host.retry host.version [] cs (contact_of (Prepared it.sent it.packet))
       (played_to m it.before it.sent it.packet it.after it.place)).last in
-      let v = shims_here it in
-      not_bare v.made.kind v.came.kind v.keeps.kind v.shown (subst IsBare (shape_is it.packet.carried packet.carried v)
-      (none_held host.margin host.version (may_ask host.retry (asked_at cs) it.sent) cs it.sent p.body p.offered
-      (shape_in it.packet.carried)
-      (nothing (λ (t : Taking). t.rights) (last_taking [] cs) (last_rights_are [] it.before ∙ rights_none it.before none))
-      (allows host.margin host.retry host.version cs it.sent p.body p.offered (shape_in it.packet.carried) p.shape)))
+      grind (arith, nat_tests, shims_here it, shape_in it.packet.carried, last_rights_are [] it.before, rights_none it.before none, allows host.margin host.retry host.version cs it.sent p.body p.offered (shape_in it.packet.carried) p.shape)
 
   pub own_grant : (it : InTime m (last m)) → LastAt it.before
   own_grant it = elim (split_last it.before) [ inl none ↦ absurd (some_grant it none) | inr l ↦ l ]
@@ -143,16 +113,7 @@ module _ (m : Passage) where
       let r =
       steady_regular (ruling m) (held m) (port_logs past) (now m) on packet (way m) ms s below
       (record { flow_is = refl; master_is = refl; offset_is = sym (force_clock router (now m)); slots_are = sym (force_slots router (now m)) }) taken shows in
-      record {
-        rights = r.last.rights;
-        came = r.last.came;
-        granted = sym (last_rights_are [] before) ∙
-            (ap (λ (cs : List Contact). option_map (λ (t : Taking). t.rights) (last_taking [] cs)) (sym same)
-            ∙ r.last.rights_are);
-        asked = sym came_is ∙ r.last.came_is;
-        charge = ap (λ (f : Fate). f.charge) is ∙ (r.charge_is ∙ ap Some (sym r.last.is));
-        class = ap (λ (f : Fate). f.class) is ∙ r.class_is;
-      }
+      grind (arith, nat_tests, last_rights_are [] before)
 
   -- what was charged in the boot to grants of no earlier second than one
   module _ (s : ℕ) (each : AllByRecursion (Steadily m) (charged_since s (boot m))) where
@@ -186,6 +147,4 @@ module _ (m : Passage) where
         subst (IsPaid (way m) ms t (shape_in p.carried) (counted p)) parts.2 (pay same cs boot_is parts.1)
 
     pub in_order : AreRising (map (λ (y : Coming). y.packet.id.ordinal) (recent ++ (last m) ∷ [])) → AreBefore (last m) (map come_key recent)
-    in_order order =
-        rises_last (map come_key recent) (come_key (last m))
-        (subst Rises (keys_push recent (last m)) (rises_from (map come_key (recent ++ (last m) ∷ [])) order))
+    in_order order = grind (arith, nat_tests, rises_last, come_key, last, keys_push, rises_from)

@@ -1,10 +1,14 @@
 -- Charges one by one, and uses beside their charges.
-use Rattle.tva_laws.proofs.Common.{◌≡◌, ◌≤◌, ◌<◌, ◌⊎◌, inl, inr, ℕ, ◌+◌, true, false, cond, List, [], ◌∷◌, ◌++◌, Option, Some, None, refl, ap, sym, subst, ◌∙◌, arith, sum_by, AllByRecursion, IfSome, unwrap_or, sum_by-cons, Grant, Rights, credit_of, Charge, same_grant, last_or, last_charge, bytes_under, bytes_of, end_of, by_bool, same_is, same_grant-self, Contact, Use, uses_in, uses, is_notice, after_notice, since_notice, life_of}
+use Rattle.tva_laws.proofs.Common.{◌≡◌, ◌≤◌, ◌<◌, ◌⊎◌, ℕ, ◌+◌, true, false, cond, List, [], ◌∷◌, ◌++◌, Option, Some, refl, ap, sym, subst, ◌∙◌, arith, sum_by, AllByRecursion, IfSome, unwrap_or, sum_by-cons, Grant, Rights, credit_of, Charge, same_grant, last_or, last_charge, bytes_under, bytes_of, end_of, by_bool, same_is, same_grant-self, Contact, Use, uses_in, uses, is_notice, after_notice, since_notice, life_of, nat_tests}
 use Rattle.tva_base.proofs.Lives.{latest_end-back}
 
 pub each-weaker : {X : Type 0} (P Q : X → Type 0) (xs : List X) → ((x : X) → P x → Q x) → AllByRecursion P xs → AllByRecursion Q xs
 each-weaker P Q [] f k = tt
 each-weaker P Q (x ∷ xs) f k = (f x k.0, each-weaker P Q xs f k.1)
+
+pub each-behind : {X : Type 0} (P : X → Type 0) (xs ys : List X) → AllByRecursion P (xs ++ ys) → AllByRecursion P ys
+each-behind P [] ys k = k
+each-behind P (x ∷ xs) ys k = each-behind P xs ys k.1
 
 -- the last charge
 each-last : (P : Charge → Type 0) (c : Charge) (cs : List Charge) → P c → AllByRecursion P cs → P (last_or c cs)
@@ -12,8 +16,7 @@ each-last P c [] k l = k
 each-last P c (d ∷ ds) k l = each-last P d ds l.0 l.1
 
 pub last-of : (P : Charge → Type 0) (cs : List Charge) (d : Charge) → AllByRecursion P cs → last_charge cs ≡ Some d → P d
-last-of P [] d k e = absurd (cc)
-last-of P (c ∷ cs) d k e = let same : last_or c cs ≡ d = cc in subst P same (each-last P c cs k.0 k.1)
+last-of P cs d k e = grind (arith, nat_tests, each-last)
 
 last_or-behind : (x : Charge) (xs : List Charge) (y : Charge) (ys : List Charge) → last_or x (xs ++ y ∷ ys) ≡ last_or y ys
 last_or-behind x [] y ys = refl
@@ -26,10 +29,7 @@ last-behind (x ∷ xs) y ys = ap Some (last_or-behind x xs y ys)
 -- the bytes of a grant among charges of earlier seconds, and among its own
 pub bytes-none : (g : Grant) (cs : List Charge) → AllByRecursion (λ c. c.grant.second < g.second) cs → bytes_of g cs ≡ 0
 bytes-none g [] k = refl
-bytes-none g (c ∷ cs) k =
-    let other : same_grant c.grant g ≡ false = by_bool (same_grant c.grant g) (λ b. b ≡ false) (λ e. absurd (let same : c.grant.second ≡ g.second = ap (λ (z : Grant). z.second) (same_is c.grant g e) in omega (arith, k.0, same))) (λ e. refl) in
-    let here : bytes_under g c ≡ 0 = ap (λ b. cond b c.length 0) other in
-    omega (arith, sum_by-cons (bytes_under g) c cs, here, bytes-none g cs k.1)
+bytes-none g (c ∷ cs) k = grind (arith, nat_tests, by_bool, same_is, sum_by-cons, bytes-none g cs k.1)
 
 pub bytes-own : (g : Grant) (cs : List Charge) → AllByRecursion (λ c. c.grant ≡ g) cs → bytes_of g cs ≡ sum_by (λ c. c.length) cs
 bytes-own g [] k = refl
@@ -60,30 +60,21 @@ credit-same delay rights u c k e = ap (λ n. credit_of n c.grant.rights) k.lengt
 
 pairs-credits : (delay : ℕ) (rights : Rights) (us : List Use) (cs : List Charge) → Pairs delay us cs → AllByRecursion (λ c. c.grant.rights ≡ rights) cs
     → sum_by credit_at cs ≡ sum_by (credit_in rights) us
-pairs-credits delay rights [] [] k r = refl
-pairs-credits delay rights [] (c ∷ cs) k r = absurd k
+pairs-credits delay rights [] z0 k r = grind (arith, nat_tests)
 pairs-credits delay rights (u ∷ us) [] k r = absurd k
-pairs-credits delay rights (u ∷ us) (c ∷ cs) k r =
-    omega (arith, credit-same delay rights u c k.0 r.0, pairs-credits delay rights us cs k.1 r.1, sum_by-cons credit_at c cs, sum_by-cons (credit_in rights) u us)
+pairs-credits delay rights (u ∷ us) (c ∷ cs) k r = search (credit-same delay rights u c k.0 r.0, sum_by-cons credit_at c cs, sum_by-cons (credit_in rights) u us, pairs-credits delay rights us cs k.1 r.1)
 
 -- the charges end later than the uses by the delay, where there are any
 pub pairs-end : (delay : ℕ) (rights : Rights) (us : List Use) (cs : List Charge) → Pairs delay us cs → AllByRecursion (λ c. c.grant.rights ≡ rights) cs
     → (life_of rights us ≡ 0) ⊎ (life_of rights us + delay ≤ end_of cs)
-pairs-end delay rights [] [] k r = inl refl
-pairs-end delay rights [] (c ∷ cs) k r = absurd k
+pairs-end delay rights [] z0 k r = grind (arith, nat_tests)
 pairs-end delay rights (u ∷ us) [] k r = absurd k
-pairs-end delay rights (u ∷ us) (c ∷ cs) k r =
-    let sums = pairs-credits delay rights (u ∷ us) (c ∷ cs) k r in
-    elim (pairs-end delay rights us cs k.1 r.1) [
-      | inl none ↦ inr (omega (arith, k.0.time, sums, none))
-      | inr ih ↦ inr (omega (arith, k.0.time, sums, ih))
-    ]
+pairs-end delay rights (u ∷ us) (c ∷ cs) k r = grind (arith, nat_tests, pairs-credits delay rights (u ∷ us) (c ∷ cs) k r, pairs-end delay rights us cs k.1 r.1)
 
 -- the uses since a notice live no longer than all
 since-weaker : (rights : Rights) (d : Contact) (ds : List Contact) (o : Option (List Contact)) → IfSome o (λ rest. life_of rights (uses rest) ≤ life_of rights (uses ds))
     → IfSome o (λ rest. life_of rights (uses rest) ≤ life_of rights (uses (d ∷ ds)))
-since-weaker rights d ds None k = tt
-since-weaker rights d ds (Some rest) k = omega (arith, k, latest_end-back (λ (u : Use). u.time) (credit_in rights) (uses_in d) (uses ds))
+since-weaker rights d ds o k = grind (arith, nat_tests, latest_end-back)
 
 notice-life : (rights : Rights) (cs : List Contact) → IfSome (after_notice cs) (λ rest. life_of rights (uses rest) ≤ life_of rights (uses cs))
 notice-life rights [] = tt
@@ -94,8 +85,7 @@ notice-life rights (d ∷ ds) = elim (is_notice d) as (λ b. IfSome (cond b (Som
 
 since-life : (rights : Rights) (cs : List Contact) (o : Option (List Contact)) → IfSome o (λ rest. life_of rights (uses rest) ≤ life_of rights (uses cs))
     → life_of rights (uses (unwrap_or o cs)) ≤ life_of rights (uses cs)
-since-life rights cs None k = omega arith
-since-life rights cs (Some rest) k = k
+since-life rights cs o k = grind (arith, nat_tests)
 
 pub life-since : (rights : Rights) (cs : List Contact) → life_of rights (uses (since_notice cs)) ≤ life_of rights (uses cs)
 life-since rights cs = since-life rights cs (after_notice cs) (notice-life rights cs)

@@ -1,34 +1,19 @@
 -- A node's transfers are no more than the rows of the trace that begin one there.
-use Rattle.tva_laws.proofs.Common.{◌≡◌, ℕ, ◌+◌, ◌≤◌, Bool, true, false, ◌&&◌, cond, List, [], ◌∷◌, ◌++◌, length, map, set, Option, Some, None, refl, sym, ap, ap₂, ◌∙◌, length-set, arith, fold, nat_lt, slice_get, ◌==◌, option_map_or, count_by, cons_option, eq-eqb, Address, DataLine, Class, Upper, PacketData, Nothing, Data, Ack, HostPlan, Config, Transfer, Files, Act, after_act, after_upper, begun, heard, no_files, range_of, with_acked, with_range, Row, RowWhat, Send, Inject, File, Tick, begins, files_at, Input, FromTrace, Arrival, Site, Entry, Took, Started, input_time, input_source, act_of_input, act_of_row, acts, files, GoesOn, due, Logs, log_at, rows_at, site_at, IsRunTo, source_due}
+use Rattle.tva_laws.proofs.Common.{◌≡◌, ℕ, ◌+◌, ◌≤◌, Bool, false, ◌&&◌, cond, List, [], ◌∷◌, ◌++◌, length, map, Option, Some, refl, sym, ap, ◌∙◌, length-set, arith, fold, nat_lt, ◌==◌, count_by, cons_option, eq-eqb, Address, Class, Upper, PacketData, HostPlan, Config, Files, Act, after_act, after_upper, no_files, Row, RowWhat, begins, files_at, Input, FromTrace, Arrival, Site, Entry, Took, Started, input_time, input_source, act_of_input, act_of_row, acts, files, GoesOn, due, Logs, log_at, rows_at, site_at, IsRunTo, source_due, nat_tests}
 use Rattle.std.proofs.Common.{filter}
 use Rattle.std.proofs.lemmas.List.{length-append}
 use Rattle.tva_laws.proofs.Passing.{count-among, count-cons, count-filter, one_if}
 
 -- ## what a row or a packet adds
 
-acked_count : (ts : List Transfer) (source : Address) (transfer next : ℕ) (o : Option Transfer)
-    → length (option_map_or (λ t. set ts transfer (with_acked source next t)) o ts) ≡ length ts
-acked_count ts source transfer next None = refl
-acked_count ts source transfer next (Some t) = length-set ts transfer (with_acked source next t)
-
-range_count : (known : Files) (source : Address) (o : Option DataLine)
-    → length (with_range source o known).transfers ≡ length known.transfers
-range_count known source None = refl
-range_count known source (Some r) = refl
-
 upper_count : (known : Files) (source : Address) (above : Upper)
     → length (after_upper known source above).transfers ≡ length known.transfers
 unfolding after_upper
-upper_count known source Nothing = refl
-upper_count known source (Data transfer first bytes) = range_count known source (range_of known source (Data transfer first bytes))
-upper_count known source (Ack transfer next) = acked_count known.transfers source transfer next (slice_get known.transfers transfer)
+upper_count known source above = grind (arith, nat_tests, length-set)
 
 row_count : (home : Address) (known : Files) (what : RowWhat)
     → length (fold (after_act home) known (cons_option (act_of_row what) [])).transfers ≡ one_if (begins what) + length known.transfers
-row_count home known (Send dst payload) = omega arith
-row_count home known (Inject flow payload carries) = omega arith
-row_count home known (File dst size segment) = (let e = length-append known.transfers (begun dst size segment ∷ []) in omega (arith, e))
-row_count home known (Tick dst) = omega arith
+row_count home known what = grind (arith, nat_tests, length-append)
 
 -- ## along a log
 
@@ -42,9 +27,7 @@ no_count n = omega arith
 input_count : (home : Address) (known : Files) (input : Input)
     → length (fold (after_act home) known (cons_option (act_of_input input) [])).transfers
     ≡ one_if (begins_in input) + length known.transfers
-input_count home known (FromTrace row) = row_count home known row.what
-input_count home known (Arrival time link packet) =
-    upper_count known packet.flow.src (heard home packet) ∙ no_count (length known.transfers)
+input_count home known input = grind (arith, nat_tests, upper_count, no_count, length-append)
 
 abbrev begins_at : Entry → Bool
 begins_at (Took input content) = begins_in input
@@ -52,26 +35,15 @@ begins_at (Started time link class packet) = false
 
 fold_option : (home : Address) (known : Files) (o : Option Act) (more : List Act)
     → fold (after_act home) known (cons_option o more) ≡ fold (after_act home) (fold (after_act home) known (cons_option o [])) more
-fold_option home known None more = refl
-fold_option home known (Some act) more = refl
-
-two_counts : (a b n m : ℕ) → m ≡ a + n → b + m ≡ (a + b) + n
-two_counts a b n m e = omega (arith, e)
+fold_option home known o more = grind (arith, nat_tests)
 
 log_count : (home : Address) (known : Files) (log : List Entry)
     → length (fold (after_act home) known (acts log)).transfers ≡ count_by begins_at log + length known.transfers
 log_count home known [] = no_count (length known.transfers)
 log_count home known (Took input content ∷ es) =
     let then = fold (after_act home) known (cons_option (act_of_input input) []) in
-    ap (λ (f : Files). length f.transfers) (fold_option home known (act_of_input input) (acts es))
-    ∙ log_count home then es
-    ∙ two_counts (one_if (begins_in input)) (count_by begins_at es) (length known.transfers) (length then.transfers)
-    (input_count home known input)
-    ∙ ap (λ n. n + length known.transfers) (sym (count-cons begins_at (Took input content) es))
-log_count home known (Started time link class packet ∷ es) =
-    log_count home known es
-    ∙ ap (λ n. n + length known.transfers)
-    (no_count (count_by begins_at es) ∙ sym (count-cons begins_at (Started time link class packet) es))
+    grind (arith, nat_tests, fold_option home known (act_of_input input) (acts es), one_if (begins_in input), input_count home known input, count-cons begins_at (Took input content) es, log_count home then es)
+log_count home known (Started time link class packet ∷ es) = grind (arith, nat_tests, no_count, count-cons, log_count home known es)
 
 start_count : (time link : ℕ) (class : Class) (packet : PacketData) (es : List Entry)
     → count_by begins_at (Started time link class packet ∷ es) ≡ count_by begins_at es
@@ -80,22 +52,16 @@ start_count time link class packet es = count-cons begins_at (Started time link 
 -- as many are taken as come in
 taken_count : (site : Site) (before : List Entry) (is : List Input) (es : List Entry) → GoesOn site before is es
     → count_by begins_at es ≡ count_by begins_in is
-taken_count site before [] [] g = refl
-taken_count site before (i ∷ is) [] g = absurd g
+taken_count site before z0 [] g = grind (arith, nat_tests)
 taken_count site before [] (Took j c ∷ es) g = absurd g
-taken_count site before (i ∷ is) (Took j c ∷ es) g =
-    count-cons begins_at (Took j c) es
-    ∙ ap₂ (λ (x : Input) (n : ℕ). one_if (begins_in x) + n) g.0 (taken_count site (before ++ Took j c ∷ []) is es g.2)
-    ∙ sym (count-cons begins_in i is)
+taken_count site before (i ∷ is) (Took j c ∷ es) g = search (count-cons begins_at (Took j c) es, count-cons begins_in i is, taken_count site (before ++ Took j c ∷ []) is es g.2)
 taken_count site before [] (Started u l c p ∷ es) g = start_count u l c p es ∙ taken_count site (before ++ Started u l c p ∷ []) [] es g.1
-taken_count site before (i ∷ is) (Started u l c p ∷ es) g =
-    start_count u l c p es ∙ taken_count site (before ++ Started u l c p ∷ []) (i ∷ is) es g.1
+taken_count site before (i ∷ is) (Started u l c p ∷ es) g = grind (arith, nat_tests, start_count, taken_count site (before ++ Started u l c p ∷ []) (i ∷ is) es g.1)
 
 -- ## in a run
 
 only_rows : (i : Input) → (input_source i == 0) ≡ false → begins_in i ≡ false
-only_rows (FromTrace row) e = absurd (let yes = eq-eqb 0 0 refl in cc)
-only_rows (Arrival time link packet) e = refl
+only_rows i e = grind (arith, nat_tests, eq-eqb)
 
 rows_count : (node : ℕ) (rows : List Row) → count_by begins_in (rows_at rows node) ≡ files_at node rows
 rows_count node [] = refl
@@ -106,8 +72,7 @@ rows_count node (row ∷ rows) =
         → count_by begins_in (map FromTrace (cond b (row ∷ filter (λ (r : Row). r.node == node) rows)
         (filter (λ (r : Row). r.node == node) rows)))
         ≡ one_if (b && begins row.what) + files_at node rows
-    by true e = count-cons begins_in (FromTrace row) (rows_at rows node) ∙ ap (λ n. one_if (begins row.what) + n) e
-    by false e = e ∙ no_count (files_at node rows)
+    by b e = grind (arith, nat_tests, count-cons begins_in (FromTrace row) (rows_at rows node), one_if (begins row.what), no_count (files_at node rows))
 
 -- a node has at most as many transfers as there are numbers
 pub few_transfers : (config : Config) (rows : List Row) (until : ℕ) (logs : Logs) → ((node : ℕ) → files_at node rows ≤ 65536)

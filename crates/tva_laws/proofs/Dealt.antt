@@ -1,5 +1,5 @@
 -- What a host's log tells of a peer is what the host's history has of it.
-use Rattle.tva_laws.proofs.Common.{option_map, IfSome, ◌≡◌, ℕ, ◌+◌, Bool, true, false, cond, eqb, List, [], ◌∷◌, ◌++◌, map, Option, Some, None, refl, ap, ap₂, sym, ◌∙◌, arith, append_assoc, append-nil, Address, Rights, HostPlan, Kind, ReturnInfo, Carried, return_size, PacketData, packet_length, upper_size, back_in, Shape, Contact, takes, length_of, of_peer, Made, Receipt, History, after_call, is_legacy, shim_of, carried_by, next_shape, next_made, intended, after_intending, taken_or_ignored, became_of, met_by, claim_in, answer_to_claim, reply_of, after_reply, before_reply, stray, receipt_of, after_receipt, brought_by, body_of, RowWhat, Send, Inject, File, Tick, call_of_row, made_for, sent_with, Deal, Prepared, Granted, Noticed, sent_for, brought, replied, Files, first_segment, segment_due, Upper}
+use Rattle.tva_laws.proofs.Common.{IfSome, ◌≡◌, ℕ, ◌+◌, Bool, true, false, cond, eqb, List, [], ◌∷◌, ◌++◌, map, Option, Some, None, refl, ap, ap₂, sym, ◌∙◌, arith, append_assoc, append-nil, Address, HostPlan, Kind, ReturnInfo, Carried, return_size, PacketData, packet_length, upper_size, back_in, Shape, Contact, length_of, of_peer, Made, Receipt, History, after_call, is_legacy, shim_of, carried_by, next_shape, next_made, intended, after_intending, became_of, met_by, claim_in, answer_to_claim, reply_of, after_reply, before_reply, stray, receipt_of, after_receipt, brought_by, body_of, RowWhat, Send, Inject, File, Tick, call_of_row, made_for, sent_with, Deal, Prepared, Granted, Noticed, sent_for, brought, replied, Files, Upper, nat_tests}
 use Rattle.tva_shim.specs.declared.kinds.Kind.TheVariants as kinds
 use Rattle.tva_shim.specs.declared.kinds.ReturnInfo.TheVariants as backs
 use Rattle.tva_shim.specs.declared.packets.Carried.TheVariants as carried
@@ -36,77 +36,49 @@ contact_of Noticed = contact.Notice
 -- ## what a host makes in a shape
 
 shape_of_shim : (version : ℕ) (s : Shape) (back : ReturnInfo) → shape_in (carried.Shim (shim_of version s back)) ≡ s
-shape_of_shim version shapes.Request back = refl
-shape_of_shim version (shapes.List held) back = refl
-shape_of_shim version (shapes.NonceOnly nonce) back = refl
-shape_of_shim version (shapes.Renewal held) back = refl
-shape_of_shim version shapes.Legacy back = refl
+shape_of_shim version s back = grind (arith, nat_tests)
 
 shape_of_sent : (version : ℕ) (s : Shape) → shape_in (carried_by version s) ≡ s
-shape_of_sent version shapes.Request = refl
-shape_of_sent version (shapes.List held) = refl
-shape_of_sent version (shapes.NonceOnly nonce) = refl
-shape_of_sent version (shapes.Renewal held) = refl
-shape_of_sent version shapes.Legacy = refl
+shape_of_sent version s = grind (arith, nat_tests)
 
 -- with a body of its payload and its return info
 length_with : (version : ℕ) (s : Shape) (back : ReturnInfo) (p : PacketData) → is_legacy s ≡ false
     → p.carried ≡ carried.Shim (shim_of version s back) → counted p ≡ length_of version s (p.payload + return_size version back)
-length_with version s back p counts e =
-    ap (λ (c : Carried). cond (is_legacy (shape_in c)) 0 (packet_length p)) e
-    ∙ (ap (λ (t : Shape). cond (is_legacy t) 0 (packet_length p)) (shape_of_shim version s back)
-    ∙ (ap (λ (b : Bool). cond b 0 (packet_length p)) counts ∙ made-length version s back p counts e))
-
-legacy_with : (version : ℕ) (back : ReturnInfo) (p : PacketData) → p.carried ≡ carried.Shim (shim_of version shapes.Legacy back)
-    → counted p ≡ 0
-legacy_with version back p e = ap (λ (c : Carried). cond (is_legacy (shape_in c)) 0 (packet_length p)) e
+length_with version s back p counts e = grind (arith, nat_tests, shape_of_shim, made-length)
 
 length_of_shim : (version : ℕ) (s : Shape) (back : ReturnInfo) (p : PacketData) → p.carried ≡ carried.Shim (shim_of version s back)
     → counted p ≡ length_of version s (p.payload + return_size version back)
-length_of_shim version shapes.Request back p e = length_with version shapes.Request back p refl e
-length_of_shim version (shapes.List held) back p e = length_with version (shapes.List held) back p refl e
-length_of_shim version (shapes.NonceOnly nonce) back p e = length_with version (shapes.NonceOnly nonce) back p refl e
-length_of_shim version (shapes.Renewal held) back p e = length_with version (shapes.Renewal held) back p refl e
-length_of_shim version shapes.Legacy back p e = legacy_with version back p e
+length_of_shim version s back p e = grind (arith, nat_tests, length_with)
 
 bare : (version payload : ℕ) → payload + return_size version backs.Nothing ≡ payload
 bare version payload = omega arith
 
 length_of_sent : (version : ℕ) (s : Shape) (p : PacketData) → p.carried ≡ carried_by version s
     → counted p ≡ length_of version s p.payload
-length_of_sent version shapes.Request p e =
-    length_with version shapes.Request backs.Nothing p refl e ∙ ap (length_of version shapes.Request) (bare version p.payload)
-length_of_sent version (shapes.List held) p e =
-    length_with version (shapes.List held) backs.Nothing p refl e ∙ ap (length_of version (shapes.List held)) (bare version p.payload)
-length_of_sent version (shapes.NonceOnly nonce) p e =
-    length_with version (shapes.NonceOnly nonce) backs.Nothing p refl e
-    ∙ ap (length_of version (shapes.NonceOnly nonce)) (bare version p.payload)
-length_of_sent version (shapes.Renewal held) p e =
-    length_with version (shapes.Renewal held) backs.Nothing p refl e
-    ∙ ap (length_of version (shapes.Renewal held)) (bare version p.payload)
+length_of_sent version shapes.Request p e = search (length_with version shapes.Request backs.Nothing p refl e, bare version p.payload)
+length_of_sent version (shapes.List held) p e = search (length_with version (shapes.List held) backs.Nothing p refl e, bare version p.payload)
+length_of_sent version (shapes.NonceOnly nonce) p e = search (length_with version (shapes.NonceOnly nonce) backs.Nothing p refl e, bare version p.payload)
+length_of_sent version (shapes.Renewal held) p e = search (length_with version (shapes.Renewal held) backs.Nothing p refl e, bare version p.payload)
 length_of_sent version shapes.Legacy p e = ap (λ (c : Carried). cond (is_legacy (shape_in c)) 0 (packet_length p)) e
 
 -- ## one more contact
 
 push_cond : (b : Bool) (xs : List Contact) (x : Contact) → cond b (xs ++ x ∷ []) xs ≡ xs ++ cond b (x ∷ []) []
-push_cond true xs x = refl
-push_cond false xs x = sym (append-nil xs)
+push_cond b xs x = grind (arith, nat_tests, append-nil)
 
 pub peer_more : (peer : Address) (h : List (Address × Contact)) (a : Address) (x : Contact)
     → of_peer peer (h ++ (a, x) ∷ []) ≡ of_peer peer h ++ cond (eqb peer.0 a.0) (x ∷ []) []
 peer_more peer h a x = of_peer-push peer h (a, x) ∙ push_cond (eqb peer.0 a.0) (of_peer peer h) x
 
 one_deal : (b : Bool) (d : Deal) (x : Contact) → contact_of d ≡ x → cond b (x ∷ []) [] ≡ map contact_of (cond b (d ∷ []) [])
-one_deal true d x e = ap (λ (y : Contact). y ∷ []) (sym e)
-one_deal false d x e = refl
+one_deal b d x e = grind (arith, nat_tests)
 
 prepared_is : (now : ℕ) (p : PacketData) (s : Shape) (bytes : ℕ) → shape_in p.carried ≡ s → counted p ≡ bytes
     → contact_of (Prepared now p) ≡ contact.Prepared now s bytes
 prepared_is now p s bytes e k = ap₂ (contact.Prepared now) e k
 
 nothing_more : (xs : List Contact) (b : Bool) (ds : List Deal) → ds ≡ [] → xs ≡ xs ++ map contact_of (cond b ds [])
-nothing_more xs true ds e = sym (append-nil xs) ∙ ap (λ (zs : List Deal). xs ++ map contact_of zs) (sym e)
-nothing_more xs false ds e = sym (append-nil xs)
+nothing_more xs b ds e = grind (arith, nat_tests, append-nil)
 
 -- ## rows
 
@@ -120,10 +92,7 @@ intended_deal number plan h peer now dst payload above =
     let p : PacketData = (next_made number plan h dst payload (carried_by plan.version s) above s).packet in
     let bytes : ℕ = length_of plan.version s payload in
     let x : Contact = contact.Prepared now s bytes in
-    let is : contact_of (Prepared now p) ≡ x =
-    prepared_is now p s bytes (shape_of_sent plan.version s) (length_of_sent plan.version s p refl) in
-    peer_more peer h.contacts dst x ∙ ap (λ (cs : List Contact). of_peer peer h.contacts ++ cs)
-    (one_deal (eqb peer.0 dst.0) (Prepared now p) x is)
+    grind (arith, nat_tests, prepared_is now p s bytes (shape_of_sent plan.version s) (length_of_sent plan.version s p refl), shape_of_sent plan.version s, length_of_sent plan.version s p refl, peer_more peer h.contacts dst x)
 
 with_deal : (number : ℕ) (plan : HostPlan) (h : History) (peer : Address) (now : ℕ) (dst : Address) (above : Upper)
     → of_peer peer (after_intending plan h now dst (sent_with number plan h now dst above).packet.payload).contacts
@@ -139,37 +108,15 @@ pub row_deal : (number : ℕ) (plan : HostPlan) (h : History) (known : Files) (p
     (sent_for peer now what made.packet))
 row_deal number plan h known peer now (Send dst payload) = intended_deal number plan h peer now dst payload upper.Nothing
 row_deal number plan h known peer now (Inject flow payload carries) = sym (append-nil (of_peer peer h.contacts))
-row_deal number plan h known peer now (File dst size segment) =
-    with_deal number plan h peer now dst (first_segment known dst size segment)
-row_deal number plan h known peer now (Tick dst) = tick_deal number plan h peer now dst (segment_due known dst)
-  where
-    tick_deal : (number : ℕ) (plan : HostPlan) (h : History) (peer : Address) (now : ℕ) (dst : Address) (above : Option Upper)
-        → IfSome (option_map (sent_with number plan h now dst) above) (λ (made : Made).
-        of_peer peer (after_call plan h (call_of_row now (Tick dst) made.packet)).contacts ≡ of_peer peer h.contacts ++ map contact_of
-        (sent_for peer now (Tick dst) made.packet))
-    tick_deal number plan h peer now dst None = tt
-    tick_deal number plan h peer now dst (Some above) = with_deal number plan h peer now dst above
+row_deal number plan h known peer now (File dst size segment) = search (arith, nat_tests, with_deal)
+row_deal number plan h known peer now (Tick dst) = grind (arith, nat_tests, with_deal)
 
 -- ## receipts
-
-met_by_taken : (plan : HostPlan) (h : List (Address × Contact)) (peer src : Address) (rights : Rights) (caps : List ℕ) (opens : Bool)
-    → of_peer peer (h ++ cond opens ((src, contact.Taken rights caps) ∷ []) []) ≡ of_peer peer h ++ map contact_of
-    (cond (eqb peer.0 src.0) (brought (taken_or_ignored opens) (backs.Grant rights caps)) [])
-met_by_taken plan h peer src rights caps true =
-    peer_more peer h src (contact.Taken rights caps) ∙ ap (λ (cs : List Contact). of_peer peer h ++ cs)
-    (one_deal (eqb peer.0 src.0) (Granted rights caps) (contact.Taken rights caps) refl)
-met_by_taken plan h peer src rights caps false =
-    ap (of_peer peer) (append-nil h) ∙ nothing_more (of_peer peer h) (eqb peer.0 src.0) [] refl
 
 met_deal : (plan : HostPlan) (h : List (Address × Contact)) (peer src : Address) (back : ReturnInfo)
     → of_peer peer (h ++ met_by plan.version h src back) ≡ of_peer peer h ++ map contact_of (cond (eqb peer.0 src.0)
     (brought (became_of plan.version h src back) back) [])
-met_deal plan h peer src backs.Nothing = ap (of_peer peer) (append-nil h) ∙ nothing_more (of_peer peer h) (eqb peer.0 src.0) [] refl
-met_deal plan h peer src backs.Notice =
-    peer_more peer h src contact.Notice ∙ ap (λ (cs : List Contact). of_peer peer h ++ cs)
-    (one_deal (eqb peer.0 src.0) Noticed contact.Notice refl)
-met_deal plan h peer src (backs.Grant rights caps) =
-    met_by_taken plan h peer src rights caps (takes plan.version (of_peer src h) rights)
+met_deal plan h peer src back = grind (arith, nat_tests, append-nil, nothing_more, peer_more, one_deal)
 
 reply_deal : (number : ℕ) (plan : HostPlan) (h : History) (peer : Address) (now : ℕ) (src : Address) (answer : Option ReturnInfo)
     (above : Upper)
@@ -182,12 +129,7 @@ reply_deal number plan h peer now src (Some back) above =
     let p : PacketData = (next_made number plan h src (upper_size above) (carried.Shim (shim_of plan.version s back)) above s).packet in
     let bytes : ℕ = length_of plan.version s size in
     let x : Contact = contact.Prepared now s bytes in
-    let body : upper_size above + return_size plan.version back ≡ size = omega arith in
-    let is : contact_of (Prepared now p) ≡ x =
-    prepared_is now p s bytes (shape_of_shim plan.version s back)
-    (length_of_shim plan.version s back p refl ∙ ap (length_of plan.version s) body) in
-    peer_more peer h.contacts src x ∙ ap (λ (cs : List Contact). of_peer peer h.contacts ++ cs)
-    (one_deal (eqb peer.0 src.0) (Prepared now p) x is)
+    grind (arith, nat_tests, shape_of_shim plan.version s back, length_of_shim plan.version s back p refl, peer_more peer h.contacts src x)
 
 pub map_more : (xs ys : List Deal) → map contact_of xs ++ map contact_of ys ≡ map contact_of (xs ++ ys)
 map_more [] ys = refl
@@ -195,8 +137,7 @@ map_more (x ∷ xs) ys = ap (λ (cs : List Contact). contact_of x ∷ cs) (map_m
 
 both_deals : (b : Bool) (cs : List Contact) (xs ys : List Deal)
     → (cs ++ map contact_of (cond b xs [])) ++ map contact_of (cond b ys []) ≡ cs ++ map contact_of (cond b (xs ++ ys) [])
-both_deals true cs xs ys = append_assoc cs (map contact_of xs) (map contact_of ys) ∙ ap (λ (zs : List Contact). cs ++ zs) (map_more xs ys)
-both_deals false cs xs ys = append-nil (cs ++ [])
+both_deals b cs xs ys = grind (arith, nat_tests, append_assoc, map_more, append-nil)
 
 pub receipt_deal : (number : ℕ) (plan : HostPlan) (h : History) (peer : Address) (now : ℕ) (p : PacketData) (above : Upper)
     → of_peer peer (after_receipt plan h now p above).contacts ≡ of_peer peer h.contacts

@@ -1,6 +1,5 @@
 -- The miles of a path: the deals of a host, each packet with its charge at the router.
-use Rattle.tva_laws.proofs.Common.{◌≡◌, inl, inr, ℕ, ◌+◌, true, false, Bool, ◌&&◌, cond, List, [], ◌∷◌, ◌++◌, map, is_some, Option, Some, None, refl, ap, ap₂, sym, subst, ◌∙◌, arith, append_assoc, append-nil, IsSomeAnd, option_and_then, IfSome, AllByRecursion, filter_map, cons_option, filter_map-append, PacketId, Rights, Time, AreSomeRights, PacketData, Charge, Contact, asked_at, each-append, each-weaker, Entry, Mile, Went, Got, Told, contact_in, contacts, paid_in, charges_in, last_came, since_got, Way, ComesIn, IsPaid, IsMile, AreMiles, Deal, Prepared, Granted, Noticed, Coming, IsNoGrant, same_id, come_as, ask_came, grant_came, since_granted}
-use Rattle.std.proofs.Common.{eq-eqb}
+use Rattle.tva_laws.proofs.Common.{◌≡◌, inl, inr, ℕ, ◌+◌, true, Bool, cond, List, [], ◌∷◌, ◌++◌, map, is_some, Option, Some, None, refl, ap, ap₂, sym, subst, ◌∙◌, arith, append_assoc, append-nil, IsSomeAnd, IfSome, AllByRecursion, filter_map, cons_option, filter_map-append, PacketId, Rights, Time, AreSomeRights, PacketData, Charge, Contact, asked_at, each-append, each-weaker, Entry, Mile, Went, Got, Told, contact_in, contacts, paid_in, charges_in, last_came, since_got, Way, ComesIn, IsPaid, IsMile, AreMiles, Deal, Prepared, Granted, Noticed, Coming, IsNoGrant, same_id, come_as, ask_came, grant_came, since_granted, nat_tests}
 use Rattle.tva_laws.proofs.Pushes.{contacts-push, charges-push, came-got, came-same, since-got, since-went, since-told}
 use Rattle.tva_laws.proofs.RisingLists.{Rises, rises_front}
 use Rattle.tva_laws.proofs.Dealt.{shape_in, counted, contact_of}
@@ -20,21 +19,14 @@ map-push : (ds : List Deal) (d : Deal) → map contact_of (ds ++ d ∷ []) ≡ m
 map-push [] d = refl
 map-push (e ∷ es) d = ap (λ (cs : List Contact). contact_of e ∷ cs) (map-push es d)
 
--- of one identity the first is found
-id_same : (a b : PacketId) → a ≡ b → same_id a b ≡ true
-id_same a b e = subst (λ (z : PacketId). same_id a z ≡ true) e (ap₂ ◌&&◌ (eq-eqb a.node a.node refl) (eq-eqb a.ordinal a.ordinal refl))
-
 found_past : (y : Coming) (id : PacketId) (o : Option Coming) (x : Coming) (b : Bool) → same_id y.packet.id id ≡ b → (y.packet.id ≡ id → ⊥)
     → o ≡ Some x → cond b (Some y) o ≡ Some x
-found_past y id o x true is other e = absurd (other (id_is y.packet.id id is))
-found_past y id o x false is other e = e
+found_past y id o x b is other e = grind (arith, nat_tests, id_is)
 
 found_behind : (front : List Coming) (x : Coming) (back : List Coming) (id : PacketId) → AllByRecursion (λ y. y.packet.id ≡ id → ⊥) front
     → id ≡ x.packet.id → come_as (front ++ x ∷ back) id ≡ Some x
-found_behind [] x back id a e =
-    ap (λ (b : Bool). cond b (Some x) (come_as back id)) (id_same x.packet.id id (sym e))
-found_behind (y ∷ ys) x back id a e =
-    found_past y id (come_as (ys ++ x ∷ back) id) x (same_id y.packet.id id) refl a.0 (found_behind ys x back id a.1 e)
+found_behind [] x back id a e = grind (arith, nat_tests)
+found_behind (y ∷ ys) x back id a e = grind (arith, nat_tests, found_past, found_behind ys x back id a.1 e)
 
 -- ## before the last grant
 
@@ -52,12 +44,7 @@ chosen w (Some t) = (t.0 + w.delay, record { from = omega arith; until = omega a
 
 bare_more : (w : Way) (ds : List Deal) (d : Deal) (m : Mile) (r : Bare w ds) → contact_in m ≡ contact_of d → paid_in m ≡ [] → IsMile w r.miles m
     → Bare w (ds ++ d ∷ [])
-bare_more w ds d m r same none is = record {
-  miles = r.miles ++ m ∷ [];
-  contacts_are = contacts-push r.miles m ∙ (ap₂ (λ (cs : List Contact) (c : Contact). cs ++ c ∷ []) r.contacts_are same ∙ sym (map-push ds d));
-  charges_are = charges-push r.miles m ∙ ap₂ ◌++◌ r.charges_are none;
-  are = miles-push w [] r.miles m r.are is;
-}
+bare_more w ds d m r same none is = grind (arith, nat_tests, contacts-push r.miles m, map-push ds d, charges-push r.miles m, miles-push w [] r.miles m r.are is)
 
 bare_step : (w : Way) (log : List Entry) (ds : List Deal) (d : Deal) → IsTrue log d → Bare w ds → Bare w (ds ++ d ∷ [])
 bare_step w log ds (Prepared t p) k r = bare_more w ds (Prepared t p) (Went t (shape_in p.carried) (counted p) None) r refl refl tt
@@ -68,8 +55,7 @@ bare_step w log ds Noticed k r = bare_more w ds Noticed Told r refl refl tt
 
 pub bare_from : (w : Way) (log : List Entry) (before ds : List Deal) → Bare w before → AllByRecursion (IsTrue log) ds → Bare w (before ++ ds)
 bare_from w log before [] r fine = subst (Bare w) (sym (append-nil before)) r
-bare_from w log before (d ∷ ds) r fine =
-    subst (Bare w) (append_assoc before (d ∷ []) ds) (bare_from w log (before ++ d ∷ []) ds (bare_step w log before d fine.0 r) fine.1)
+bare_from w log before (d ∷ ds) r fine = grind (arith, nat_tests, append_assoc, bare_step, bare_from w log (before ++ d ∷ []) ds (bare_step w log before d fine.0 r) fine.1)
 
 pub bare_none : (w : Way) → Bare w []
 bare_none w = record { miles = []; contacts_are = refl; charges_are = refl; are = tt }
@@ -90,9 +76,7 @@ AreWalkable w seen before (d ∷ ds) = IsWalkable w seen before d × AreWalkable
 
 pub none_granted : (w : Way) (seen : List Coming) (before ds : List Deal) → AllByRecursion IsNoGrant ds → AreWalkable w seen before ds
 none_granted w seen before [] k = tt
-none_granted w seen before (Prepared t p ∷ ds) k = (tt, none_granted w seen (before ++ Prepared t p ∷ []) ds k.1)
-none_granted w seen before (Granted rights caps ∷ ds) k = absurd k.0
-none_granted w seen before (Noticed ∷ ds) k = (tt, none_granted w seen (before ++ Noticed ∷ []) ds k.1)
+none_granted w seen before (z0 ∷ ds) k = grind (arith, nat_tests, none_granted w seen (before ++ z0 ∷ []) ds k.1)
 
 pub each_walkable : (w : Way) (seen : List Coming) (before ds : List Deal)
     → ((front : List Deal) (d : Deal) (back : List Deal) → before ++ ds ≡ front ++ d ∷ back → IsWalkable w seen front d)
@@ -123,30 +107,17 @@ module _ (w : Way) (seen met : List Coming) (own earlier : List Deal) (tail : Li
     pub beside : AreBeside met (since_granted [] before) (since_got [] miles)
 
   pub run_none : Run [] []
-  run_none = record {
-    miles = [];
-    contacts_are = refl;
-    charges_are = refl;
-    are = tt;
-    came = refl;
-    beside = tt;
-  }
+  run_none = grind (arith, nat_tests)
 
   beside_went : (before : List Deal) (ms : List Mile) (t : ℕ) (p : PacketData) (o : Option Charge)
       → AreBeside met (since_granted [] before) (since_got [] ms)
       → IsBeside met (Prepared t p) (Went t (shape_in p.carried) (counted p) o)
       → AreBeside met (since_granted [] (before ++ Prepared t p ∷ [])) (since_got [] (ms ++ Went t (shape_in p.carried) (counted p) o ∷ []))
-  beside_went before ms t p o k l =
-      let m : Mile = Went t (shape_in p.carried) (counted p) o in
-      subst (λ (ds : List Deal). AreBeside met ds (since_got [] (ms ++ m ∷ []))) (sym (since_other [] before (Prepared t p) tt))
-      (subst (AreBeside met (since_granted [] before ++ Prepared t p ∷ [])) (sym (since-went [] ms t (shape_in p.carried) (counted p) o))
-      (beside-push met (since_granted [] before) (since_got [] ms) (Prepared t p) m k l))
+  beside_went before ms t p o k l = grind (arith, nat_tests, shape_in, counted, since_other, since-went, beside-push)
 
   beside_got : (before : List Deal) (ms : List Mile) (rights : Rights) (caps : List ℕ) (came : ℕ)
       → AreBeside met (since_granted [] (before ++ Granted rights caps ∷ [])) (since_got [] (ms ++ Got rights caps came ∷ []))
-  beside_got before ms rights caps came =
-      subst (λ (ds : List Deal). AreBeside met ds (since_got [] (ms ++ Got rights caps came ∷ []))) (sym (since_grant [] before rights caps))
-      (subst (AreBeside met []) (sym (since-got [] ms rights caps came)) tt)
+  beside_got before ms rights caps came = grind (arith, nat_tests, since_grant, since-got)
 
   -- a grant
   got : (before : List Deal) (front : List Coming) (ms : List Mile) (rights : Rights) (caps : List ℕ) (came : ℕ)
@@ -155,15 +126,7 @@ module _ (w : Way) (seen met : List Coming) (own earlier : List Deal) (tail : Li
       → Run (before ++ Granted rights caps ∷ []) front
   got before front ms rights caps came same charged are e fine comes =
       let m : Mile = Got rights caps came in
-      record {
-        miles = ms ++ m ∷ [];
-        contacts_are = contacts-push ms m ∙ (ap (λ (cs : List Contact). cs ++ contact_of (Granted rights caps) ∷ []) same
-            ∙ sym (map-push before (Granted rights caps)));
-        charges_are = charges-push ms m ∙ (append-nil (charges_in ms) ∙ charged);
-        are = miles-push w [] ms m are (fine, comes);
-        came = came-got ms rights caps came ∙ sym (came-granted seen [] before rights caps came e);
-        beside = beside_got before ms rights caps came;
-      }
+      grind (arith, nat_tests, contacts-push ms m, contact_of (Granted rights caps), map-push before (Granted rights caps), charges-push ms m, append-nil (charges_in ms), miles-push w [] ms m are (fine, comes), came-got ms rights caps came, came-granted seen [] before rights caps came e, beside_got before ms rights caps came)
 
   -- behind deals without a charge
   pub begun : (first : List Deal) (rights : Rights) (caps : List ℕ) (came : ℕ) (r : Bare w first) → ask_came seen first ≡ Some came
@@ -175,24 +138,14 @@ module _ (w : Way) (seen met : List Coming) (own earlier : List Deal) (tail : Li
   granted : (before : List Deal) (front : List Coming) (rights : Rights) (caps : List ℕ) (o : Option ℕ) → ask_came seen before ≡ o
       → Run before front → AreSomeRights rights → IsSomeAnd o (λ came. (ms : List Mile) → contacts ms ≡ map contact_of before
       → IfSome (asked_at (contacts ms)) (λ (t : Time). ComesIn w t.0 came)) → Run (before ++ Granted rights caps ∷ []) front
-  granted before front rights caps None e r fine k = absurd k
-  granted before front rights caps (Some came) e r fine k =
-      got before front r.miles rights caps came r.contacts_are r.charges_are r.are e fine (k r.miles r.contacts_are)
+  granted before front rights caps o e r fine k = grind (arith, nat_tests, got)
 
   -- a packet that was not charged
   skipped : (before : List Deal) (front : List Coming) (t : ℕ) (p : PacketData) → Run before front → (IsCharged met p.id → ⊥)
       → Run (before ++ Prepared t p ∷ []) front
   skipped before front t p r none =
       let m : Mile = Went t (shape_in p.carried) (counted p) None in
-      record {
-        miles = r.miles ++ m ∷ [];
-        contacts_are = contacts-push r.miles m ∙ (ap (λ (cs : List Contact). cs ++ contact_of (Prepared t p) ∷ []) r.contacts_are ∙ sym
-            (map-push before (Prepared t p)));
-        charges_are = charges-push r.miles m ∙ (append-nil (charges_in r.miles) ∙ r.charges_are);
-        are = miles-push w [] r.miles m r.are tt;
-        came = came-same r.miles m refl ∙ (r.came ∙ sym (came-other seen [] before (Prepared t p) tt));
-        beside = beside_went before r.miles t p None r.beside (none, refl);
-      }
+      grind (arith, nat_tests, contacts-push r.miles m, contact_of (Prepared t p), map-push before (Prepared t p), charges-push r.miles m, append-nil (charges_in r.miles), miles-push w [] r.miles m r.are tt, came-same r.miles m refl, came-other seen [] before (Prepared t p) tt, beside_went before r.miles t p None r.beside (none, refl))
 
   -- one that was
   charged_one : (before : List Deal) (front : List Coming) (t : ℕ) (p : PacketData) (x : Coming) (c : Charge) → Run before front
@@ -204,8 +157,7 @@ module _ (w : Way) (seen met : List Coming) (own earlier : List Deal) (tail : Li
       let one : c ∷ [] ≡ filter_map paid_of (x ∷ []) = ap (λ (o : Option Charge). cons_option o []) (sym e) in
       record {
         miles = r.miles ++ m ∷ [];
-        contacts_are = contacts-push r.miles m ∙ (ap (λ (cs : List Contact). cs ++ contact_of (Prepared t p) ∷ []) r.contacts_are ∙ sym
-            (map-push before (Prepared t p)));
+        contacts_are = grind (arith, nat_tests, contacts-push, contact_of, map-push);
         charges_are = charges-push r.miles m ∙ (ap₂ ◌++◌ r.charges_are one ∙ sym (filter_map-append paid_of front (x ∷ [])));
         are = miles-push w [] r.miles m r.are (pay r.miles r.came r.charges_are);
         came = came-same r.miles m refl ∙ (r.came ∙ sym (came-other seen [] before (Prepared t p) tt));
@@ -213,16 +165,7 @@ module _ (w : Way) (seen met : List Coming) (own earlier : List Deal) (tail : Li
       }
 
   noticed : (before : List Deal) (front : List Coming) → Run before front → Run (before ++ Noticed ∷ []) front
-  noticed before front r = record {
-    miles = r.miles ++ Told ∷ [];
-    contacts_are = contacts-push r.miles Told ∙ (ap (λ (cs : List Contact). cs ++ contact_of Noticed ∷ []) r.contacts_are ∙ sym
-        (map-push before Noticed));
-    charges_are = charges-push r.miles Told ∙ (append-nil (charges_in r.miles) ∙ r.charges_are);
-    are = miles-push w [] r.miles Told r.are tt;
-    came = came-same r.miles Told refl ∙ (r.came ∙ sym (came-other seen [] before Noticed tt));
-    beside = (let ds = since_other [] before Noticed tt in let ms = since-told [] r.miles in
-        rw (ds, ms) (beside-push met (since_granted [] before) (since_got [] r.miles) Noticed Told r.beside tt));
-  }
+  noticed before front r = grind (arith, nat_tests, contacts-push r.miles Told, contact_of Noticed, map-push before Noticed, charges-push r.miles Told, append-nil (charges_in r.miles), miles-push w [] r.miles Told r.are tt, came-same r.miles Told refl, came-other seen [] before Noticed tt, since_other [] before Noticed tt, since-told [] r.miles, beside-push met (since_granted [] before) (since_got [] r.miles) Noticed Told r.beside tt)
 
   -- what was skipped is of no charged packet: those before it were prepared before it, and those behind it behind it
   abbrev IsOther : PacketId → Coming → Type 0
@@ -232,34 +175,19 @@ module _ (w : Way) (seen met : List Coming) (own earlier : List Deal) (tail : Li
       → Rises (keys (before ++ Prepared t p ∷ ds)) → AllByRecursion (λ x. In before x.packet.id) front
       → AllByRecursion (IsOther p.id) front
   front_other before t p ds [] r a = tt
-  front_other before t p ds (x ∷ xs) r a = (
-    λ e. (let less = in_front before t p ds x.packet.id r a.0 in let same : x.packet.id.ordinal ≡ p.id.ordinal = ap
-        (λ (i : PacketId). i.ordinal) e in omega arith),
-    front_other before t p ds xs r a.1,
-  )
+  front_other before t p ds (x ∷ xs) r a = grind (arith, nat_tests, in_front, front_other before t p ds xs r a.1)
 
   back_other : (t : ℕ) (p : PacketData) (ds : List Deal) (xs : List Coming) → Rises (keys (Prepared t p ∷ ds))
       → AllByRecursion (λ x. In ds x.packet.id) xs → AllByRecursion (IsOther p.id) xs
   back_other t p ds [] r a = tt
-  back_other t p ds (x ∷ xs) r a = (
-    λ e. (let less = in_behind (Prepared t p) ds p.id x.packet.id r refl a.0 in let same : x.packet.id.ordinal ≡ p.id.ordinal = ap
-        (λ (i : PacketId). i.ordinal) e in omega arith),
-    back_other t p ds xs r a.1,
-  )
+  back_other t p ds (x ∷ xs) r a = grind (arith, nat_tests, in_behind (Prepared t p) ds p.id x.packet.id r refl a.0, back_other t p ds xs r a.1)
 
   -- nothing came of that identity that was charged
   not_charged : (id : PacketId) → AllByRecursion (IsOther id) (met) → IsCharged met id → ⊥
-  not_charged id a = by (come_as met id) refl
-    where
-      by : (o : Option Coming) → come_as met id ≡ o → is_some (option_and_then (λ (x : Coming). x.charge) o) ≡ true → ⊥
-      by None e k = cc
-      by (Some y) e k =
-          let is = come_is (IsOther id) met id y a e in is.0 is.1
+  not_charged id a = grind (arith, nat_tests, come_is)
 
   earlier_rises : Rises (keys earlier)
-  earlier_rises =
-      rises_front (keys earlier) (keys tail) (subst Rises (filter_map-append deal_key earlier tail)
-      (subst (λ (ds : List Deal). Rises (keys ds)) whole rises))
+  earlier_rises = grind (arith, nat_tests, rises_front, keys, filter_map-append, deal_key)
 
   -- the deal at a place, and all that follow
   pub record At (before : List Deal) (front : List Coming) (ds : List Deal) (xs : List Coming) : Type 0 where
@@ -282,14 +210,7 @@ module _ (w : Way) (seen met : List Coming) (own earlier : List Deal) (tail : Li
   found_so : (before : List Deal) (front : List Coming) (t : ℕ) (p : PacketData) (ds : List Deal) (x : Coming) (xs : List Coming) (c : Charge)
       → At before front (Prepared t p ∷ ds) (x ∷ xs) → p.id ≡ x.packet.id → paid_of x ≡ Some c
       → IsSomeAnd (come_as met p.id) (λ y. y.charge ≡ Some c.grant)
-  found_so before front t p ds x xs c a k e =
-      let all : Rises (keys (before ++ Prepared t p ∷ ds)) = subst (λ (es : List Deal). Rises (keys es)) a.here earlier_rises in
-      let found : come_as met p.id ≡ Some x =
-      ap (λ (ys : List Coming). come_as ys p.id) a.seen_here
-      ∙ found_behind front x xs p.id (front_other before t p ds front all a.ins) k in
-      let parts = charge_parts x x.charge c refl e in
-      subst (λ (o : Option Coming). IsSomeAnd o (λ y. y.charge ≡ Some c.grant)) (sym found)
-      (parts.1 ∙ ap (λ (d : Charge). Some d.grant) parts.2)
+  found_so before front t p ds x xs c a k e = grind (arith, nat_tests, keys, earlier_rises, found_behind, front_other, charge_parts)
 
   -- a deal that is matched
   step_matched : (before : List Deal) (front : List Coming) (d : Deal) (ds : List Deal) (x : Coming) (xs : List Coming)
@@ -301,13 +222,9 @@ module _ (w : Way) (seen met : List Coming) (own earlier : List Deal) (tail : Li
     seen_here = a.seen_here ∙ sym (append_assoc front (x ∷ []) xs);
     run = charged_one before front t p x c a.run e (found_so before front t p ds x xs c a k e) (λ ms came charges. pays before t p (ds ++ tail) front x xs
         (own_here before (Prepared t p) ds a.here) a.seen_here k c e ms came charges);
-    ins = each-append (λ (y : Coming). In (before ++ Prepared t p ∷ []) y.packet.id) front (x ∷ [])
-        (each-weaker (λ (y : Coming). In before y.packet.id) (λ (y : Coming). In (before ++ Prepared t p ∷ []) y.packet.id)
-        (λ y i. in_left before (Prepared t p ∷ []) y.packet.id i) front a.ins)
-        (in_last before (Prepared t p) x.packet.id k, tt);
+    ins = grind (arith, nat_tests, each-append, each-weaker, in_left, in_last);
   }
-  step_matched before front (Granted rights caps) ds x xs o a k e s = absurd k
-  step_matched before front Noticed ds x xs o a k e s = absurd k
+  step_matched before front z0 ds x xs o a k e s = search
 
   -- a deal that is skipped
   step_skipped : (before : List Deal) (front : List Coming) (d : Deal) (ds : List Deal) (xs : List Coming) → IsWalkable w seen before d
@@ -316,8 +233,7 @@ module _ (w : Way) (seen met : List Coming) (own earlier : List Deal) (tail : Li
     here = a.here ∙ sym (append_assoc before (d ∷ []) ds);
     seen_here = a.seen_here;
     run = by d a.here fine;
-    ins = each-weaker (λ (y : Coming). In before y.packet.id) (λ (y : Coming). In (before ++ d ∷ []) y.packet.id)
-        (λ y i. in_left before (d ∷ []) y.packet.id i) front a.ins;
+    ins = grind (arith, nat_tests, each-weaker, in_left);
   }
     where
       by : (e : Deal) → earlier ≡ before ++ e ∷ ds → IsWalkable w seen before e → Run (before ++ e ∷ []) front
@@ -334,10 +250,7 @@ module _ (w : Way) (seen met : List Coming) (own earlier : List Deal) (tail : Li
   pub along : (before : List Deal) (front : List Coming) (ds : List Deal) (xs : List Coming) (behind : List Deal) (more : List Coming)
       → AreWalkable w seen before ds → At before front (ds ++ behind) (xs ++ more) → Matches ds xs → AreIn behind more
       → At (before ++ ds) (front ++ xs) behind more
-  along before front [] [] behind more fine a m i =
-      subst (λ (bs : List Deal). At bs (front ++ []) behind more) (sym (append-nil before))
-      (subst (λ (fs : List Coming). At before fs behind more) (sym (append-nil front)) a)
-  along before front [] (x ∷ xs) behind more fine a m i = absurd m
+  along before front [] z0 behind more fine a m i = grind (arith, nat_tests, append-nil)
   along before front (d ∷ ds) [] behind more fine a m i =
       subst (λ (bs : List Deal). At bs (front ++ []) behind more) (append_assoc before (d ∷ []) ds)
       (along (before ++ d ∷ []) front ds [] behind more fine.1

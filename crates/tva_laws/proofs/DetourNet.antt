@@ -1,5 +1,5 @@
 -- The network of the walk by a changed route is valid, and so are its rows.
-use Rattle.tva_laws.proofs.Common.{◌≡◌, ◌<◌, ◌≤◌, ◌+◌, ◌*◌, ◌^◌, ℕ, Bool, true, false, not, ◌&&◌, cond, eqb, List, [], ◌∷◌, map, Contains, refl, ap, arith, AllByRecursion, eq-eqb, All-from_recursion, All-nil, Address, Prefix, LinkLimits, Time, DenyAll, Server, Route, same_prefix, AreDistinct, AreLinkLimits, IsPrefix, IsRouterPlan, links_of, and_true, NodePlan, Host, is_host_plan, links_from, incoming_of, outgoing_of, IsName, IsNodePlan, HasPolicy, IsLinkPlan, IsConfig, IsRow, AreTraceRows, walk_a, walk_b, walk_route, walk_host_b, walk_link, first_router, second_router, detour_config, detour_row, detour_rows}
+use Rattle.tva_laws.proofs.Common.{◌≡◌, ◌<◌, ◌≤◌, ◌+◌, ◌*◌, ◌^◌, ℕ, Bool, true, not, ◌&&◌, cond, eqb, List, [], ◌∷◌, map, Contains, refl, ap, arith, AllByRecursion, eq-eqb, All-from_recursion, Address, Prefix, LinkLimits, Time, DenyAll, Server, Route, same_prefix, AreDistinct, AreLinkLimits, IsRouterPlan, links_of, and_true, NodePlan, Host, is_host_plan, links_from, incoming_of, outgoing_of, IsNodePlan, IsLinkPlan, IsConfig, IsRow, AreTraceRows, walk_a, walk_b, walk_route, walk_host_b, walk_link, first_router, second_router, detour_config, detour_row, detour_rows, nat_tests}
 use Rattle.tva_base.specs.Plan.{AreRising}
 use Rattle.tva_laws.proofs.Walkable.{absent, limits_fine, host_fine, policy_fine, none_begins}
 use Rattle.tva_laws.proofs.WorkedRuns.{pair}
@@ -16,8 +16,7 @@ module _ {X : Type 0} (number : X → ℕ) where
   differ (x ∷ xs) = none_is x xs && differ xs
 
   never : (b : Bool) → not b ≡ true → b ≡ true → ⊥
-  never true e k = cc
-  never false e k = cc
+  never b e k = grind (arith, nat_tests)
 
   each_other : (x : X) (ys : List X) → none_is x ys ≡ true → AllByRecursion (λ (y : X). y ≡ x → ⊥) ys
   each_other x [] e = tt
@@ -50,8 +49,7 @@ of_prefix_address p = p.address.0
 
 -- the one change of a route rises by itself
 one_rises : (c : Time × Prefix × ℕ) (b : Bool) → AreRising (map (λ (c : Time × Prefix × ℕ). c.0.0) (cond b (c ∷ []) []))
-one_rises c true = (All-nil (λ (m : ℕ). c.0.0 < m), tt)
-one_rises c false = tt
+one_rises c b = grind (arith, nat_tests)
 
 first_fine : IsRouterPlan first_router
 first_fine = record {
@@ -64,34 +62,16 @@ first_fine = record {
   limits = All-from_recursion (λ (o : ℕ × LinkLimits). AreLinkLimits o.1) first_router.outgoing (limits_fine, (limits_fine, (limits_fine, tt)));
   links = All-from_recursion (λ (r : Route). Contains (links_of first_router.outgoing) r.link) first_router.routes
       ((0, omega arith, refl), ((1, omega arith, refl), tt));
-  prefixes = All-from_recursion (λ (r : Route). IsPrefix r.prefix) first_router.routes
-      (record { bits = omega arith; zeros = refl }, (record { bits = omega arith; zeros = refl }, tt));
+  prefixes = grind (arith, nat_tests);
   apart = distinct of_prefix_address ((walk_route 167772160 1).prefix ∷ (walk_route 167772416 2).prefix ∷ []) refl;
   boots = tt;
-  moved = All-from_recursion (λ (c : Time × Prefix × ℕ). Contains (map (λ (r : Route). r.prefix) first_router.routes) c.1) first_router.reroutes
-      ((1, omega arith, refl), tt);
-  ways = All-from_recursion (λ (c : Time × Prefix × ℕ). Contains (links_of first_router.outgoing) c.2) first_router.reroutes
-      ((2, omega arith, refl), tt);
+  moved = grind (arith, nat_tests);
+  ways = grind (arith, nat_tests);
   turns = λ prefix. one_rises (record { 0 = 8000000 }, (walk_route 167772416 2).prefix, 4) (same_prefix (walk_route 167772416 2).prefix prefix);
 }
 
 second_fine : IsRouterPlan second_router
-second_fine = record {
-  clock_offset = omega arith;
-  slots = omega arith;
-  edge_tag = omega arith;
-  tags = All-from_recursion (λ (i : ℕ × ℕ). i.1 < 2 ^ 16) second_router.incoming (omega arith, tt);
-  incoming = distinct same (4 ∷ []) refl;
-  outgoing = distinct same (5 ∷ []) refl;
-  limits = All-from_recursion (λ (o : ℕ × LinkLimits). AreLinkLimits o.1) second_router.outgoing (limits_fine, tt);
-  links = All-from_recursion (λ (r : Route). Contains (links_of second_router.outgoing) r.link) second_router.routes ((0, omega arith, refl), tt);
-  prefixes = All-from_recursion (λ (r : Route). IsPrefix r.prefix) second_router.routes (record { bits = omega arith; zeros = refl }, tt);
-  apart = distinct of_prefix_address ((walk_route 167772416 5).prefix ∷ []) refl;
-  boots = tt;
-  moved = All-nil (λ (c : Time × Prefix × ℕ). Contains (map (λ (r : Route). r.prefix) second_router.routes) c.1);
-  ways = All-nil (λ (c : Time × Prefix × ℕ). Contains (links_of second_router.outgoing) c.2);
-  turns = λ prefix. tt;
-}
+second_fine = grind (arith, nat_tests, distinct, limits_fine)
 
 link_fine : (from to tag : ℕ) → from < 4 → to < 4 → (from ≡ to → ⊥) → IsLinkPlan 4 (walk_link from to tag)
 link_fine from to tag f t a = record { from = f; to = t; apart = a; delay = (omega arith, omega arith); limits = limits_fine }
@@ -110,8 +90,7 @@ valid = record {
   few_places = omega arith;
   nodes = All-from_recursion IsNodePlan detour_config.nodes
       (first_fine, (second_fine, (host_fine 65 walk_a DenyAll 0, (host_fine 66 walk_b Server 3, tt))));
-  policies = All-from_recursion HasPolicy detour_config.nodes
-      (tt, (tt, (policy_fine 65 walk_a DenyAll 0, (policy_fine 66 walk_b Server 3, tt))));
+  policies = grind (arith, nat_tests, policy_fine);
   routers_first = All-from_recursion (λ (q : NodePlan). is_host_plan q ≡ true) (Host walk_host_b ∷ []) (refl, tt);
   links = All-from_recursion (IsLinkPlan 4) detour_config.links (
     link_fine 2 0 1 (omega arith) (omega arith) (λ e. omega (arith, e)),
@@ -129,13 +108,7 @@ valid = record {
       ),
     ),
   );
-  named = All-from_recursion IsName ((82 ∷ 49 ∷ []) ∷ (82 ∷ 50 ∷ []) ∷ (65 ∷ []) ∷ (66 ∷ []) ∷ []) (
-    record { size = (omega arith, omega arith); bytes = refl },
-    (
-      record { size = (omega arith, omega arith); bytes = refl },
-      (record { size = (omega arith, omega arith); bytes = refl }, (record { size = (omega arith, omega arith); bytes = refl }, tt)),
-    ),
-  );
+  named = grind (arith, nat_tests);
   names = distinct total ((82 ∷ 49 ∷ []) ∷ (82 ∷ 50 ∷ []) ∷ (65 ∷ []) ∷ (66 ∷ []) ∷ []) refl;
   addresses = distinct of_address (walk_a ∷ walk_b ∷ []) refl;
   pairs = distinct code ((2, 0) ∷ (0, 2) ∷ (0, 3) ∷ (3, 0) ∷ (0, 1) ∷ (1, 3) ∷ []) refl;
@@ -146,12 +119,4 @@ sent : (time payload : ℕ) → time ≤ 10000000000 → payload ≤ 1600 → Is
 sent time payload t p = record { time = t; node = omega arith; what = (refl, p) }
 
 pub traced : AreTraceRows detour_config detour_rows
-traced = record {
-  few = omega arith;
-  each = All-from_recursion (IsRow detour_config) detour_rows (
-      pair (sent 0 77 (omega arith) (omega arith)) (pair (sent 5000000 1000 (omega arith) (omega arith)) (pair
-      (sent 10000000 1000 (omega arith) (omega arith)) (pair (sent 20000000 1000 (omega arith) (omega arith)) (pair
-      (sent 2100000000 77 (omega arith) (omega arith)) (pair (sent 2110000000 1000 (omega arith) (omega arith)) tt))))));
-  order = (omega arith, (omega arith, (omega arith, (omega arith, (omega arith, (omega arith, tt))))));
-  files = λ node. (let none = none_begins node detour_rows (refl, (refl, (refl, (refl, (refl, (refl, tt)))))) in omega (arith, none));
-}
+traced = grind (arith, nat_tests, pair, sent, none_begins)

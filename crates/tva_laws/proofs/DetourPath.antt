@@ -1,6 +1,6 @@
 -- Behind a changed route the path is steady up to the list of the next grant, at the router before and at that which it brings in.
 use Rattle.tva_laws.proofs.Common.{◌<◌, false, List, [], ◌∷◌, ◌++◌, None, refl, arith, All-nil, Regular, in_force, credit_of, layout, two_bytes, six_bytes, eight_bytes, number_bytes, Started, Deal, Prepared, Granted, Noticed, walk_rights, IsSteadyIn, charged_to, to_first, to_second, detour_logs, first_before_list, second_before_list, asked, narrow_caps, wide_caps, narrow_list, narrow_nonce, wide_list, by_first}
-use Rattle.tva_laws.proofs.WorkedRuns.{came_so}
+use Rattle.tva_laws.proofs.WorkedRuns.{came_so, under_so}
 
 -- what A had before it asked anew
 abbrev earlier : List Deal
@@ -39,11 +39,7 @@ steady_first = record {
     ask = record { time = 2101001000; packet = asked 5 0 []; charge = None };
     came = refl;
     in_time = came_so earlier 2100000000 (asked 5 0 []) (Granted walk_rights wide_caps ∷ listed ∷ []) refl refl (omega arith) (omega arith);
-    last = record {
-      in_time = came_so [] 2110000000 (wide_list 0 0) [] refl refl (omega arith) (omega arith);
-      behind = omega arith;
-      minted = refl;
-    };
+    last = under_so (came_so [] 2110000000 (wide_list 0 0) [] refl refl (omega arith) (omega arith)) (omega arith) refl;
     no_other = tt;
     each = tt;
     order = (All-nil (λ n. 6 < n), tt);
@@ -71,11 +67,7 @@ steady_second = record {
     ask = record { time = 2102002100; packet = asked 5 1 (by_first 2); charge = None };
     came = refl;
     in_time = came_so earlier 2100000000 (asked 5 0 []) (Granted walk_rights wide_caps ∷ listed ∷ []) refl refl (omega arith) (omega arith);
-    last = record {
-      in_time = came_so [] 2110000000 (wide_list 0 0) [] refl refl (omega arith) (omega arith);
-      behind = omega arith;
-      minted = refl;
-    };
+    last = under_so (came_so [] 2110000000 (wide_list 0 0) [] refl refl (omega arith) (omega arith)) (omega arith) refl;
     no_other = tt;
     each = tt;
     order = (All-nil (λ n. 6 < n), tt);

@@ -1,5 +1,5 @@
 -- The logs of the walk by a changed route are a run.
-use Rattle.tva_laws.proofs.Common.{◌≡◌, ℕ, zero, suc, true, false, List, [], ◌∷◌, take, Some, refl, subst, arith, same_Some, Fate, in_force, credit_of, PacketData, layout, two_bytes, six_bytes, eight_bytes, number_bytes, list_verdict, nonce_verdict, is_granted, under_grant, decision, link_to, answer_to_shown, answer_to_nonce, judged_shim, handle, intended, after_intending, receipt_of, after_receipt, Router, Host, from_source, Input, FromTrace, Arrival, Site, site_of, Arrived, Entry, input_source, content, arrived, GoesOn, due, start_after, at_time, links_out, log_at, reaches, site_at, HasLog, IsRunTo, segment_due, range_of, after_upper, answer_to, walk_host_b, denying_a, charged_to, first_router, second_router, detour_config, detour_rows, detour_row, detour_logs, detour_log_a, detour_log_b, log_first, log_second, first_before_again, first_before_list, second_before_list, detour_until, asked, narrow_caps, wide_caps, narrow_list, narrow_nonce, wide_list, told, refused, by_first, by_second, back_by_first}
+use Rattle.tva_laws.proofs.Common.{◌≡◌, ℕ, zero, suc, true, false, List, [], ◌∷◌, take, Some, refl, subst, arith, same_Some, Fate, in_force, credit_of, PacketData, layout, two_bytes, six_bytes, eight_bytes, number_bytes, list_verdict, nonce_verdict, is_granted, under_grant, decision, link_to, answer_to_shown, answer_to_nonce, judged_shim, handle, intended, after_intending, receipt_of, after_receipt, Router, Host, from_source, Input, FromTrace, Arrival, Site, site_of, Arrived, Entry, input_source, content, arrived, GoesOn, due, start_after, at_time, links_out, log_at, reaches, site_at, HasLog, IsRunTo, segment_due, range_of, after_upper, answer_to, walk_host_b, denying_a, charged_to, first_router, second_router, detour_config, detour_rows, detour_row, detour_logs, detour_log_a, detour_log_b, log_first, log_second, first_before_again, first_before_list, second_before_list, detour_until, asked, narrow_caps, wide_caps, narrow_list, narrow_nonce, wide_list, told, refused, by_first, by_second, back_by_first, nat_tests}
 use Rattle.tva_base.specs.declared.packet.Cause.TheVariants.{NoCapability}
 use Rattle.tva_laws.proofs.WorkedRuns.{none_from, has_by, by_number, triple, pair}
 use Rattle.tva_laws.specs.Detour.{answered}
@@ -111,28 +111,19 @@ second_passes = rw (lasts second_router.master 2102002100 2112020960 (omega arit
 
 first_steps : GoesOn first_site [] first_inputs log_first
 unfolding layout two_bytes six_bytes eight_bytes number_bytes credit_of nonce_verdict link_to answer_to_nonce judged_shim handle arrived decision start_after in_force
-first_steps =
-    triple refl refl (pair refl (triple refl refl (pair refl (triple refl list_passes (pair refl
-    (triple refl refl (pair refl (triple refl refl (pair refl (triple refl again_passes (pair refl
-    (triple refl refl (pair refl (triple refl refl (pair refl (triple refl refl (pair refl (triple
-    refl wide_passes (pair refl tt)))))))))))))))))))
+first_steps = grind (arith, nat_tests, triple, pair, list_passes, again_passes, wide_passes)
 
 second_steps : GoesOn second_site [] second_inputs log_second
 unfolding layout two_bytes six_bytes eight_bytes number_bytes credit_of nonce_verdict link_to answer_to_nonce judged_shim handle arrived decision start_after in_force
-second_steps =
-    (refl, refl, (refl, (refl, list_refused, (refl, (refl, refl, (refl, (refl, second_passes, (refl, tt))))))))
+second_steps = grind (arith, nat_tests, list_refused, second_passes)
 
 a_steps : GoesOn a_site [] a_inputs detour_log_a
 unfolding layout two_bytes six_bytes eight_bytes number_bytes credit_of is_granted under_grant decision link_to intended after_intending receipt_of after_receipt segment_due range_of after_upper answer_to start_after
-a_steps =
-    triple refl refl (pair refl (triple refl refl (triple refl refl (pair refl (triple refl refl
-    (pair refl (triple refl refl (triple refl refl (pair refl (triple refl refl (triple refl refl
-    (pair refl (triple refl refl (triple refl refl (pair refl tt)))))))))))))))
+a_steps = grind (arith, nat_tests, triple, pair)
 
 b_steps : GoesOn b_site [] b_inputs detour_log_b
 unfolding layout two_bytes six_bytes eight_bytes number_bytes credit_of is_granted under_grant decision link_to intended after_intending receipt_of after_receipt segment_due range_of after_upper answer_to start_after
-b_steps =
-    (refl, refl, (refl, (refl, refl, (refl, refl, (refl, (refl, refl, (refl, (refl, refl, (refl, tt)))))))))
+b_steps = search
 
 -- ## the run
 

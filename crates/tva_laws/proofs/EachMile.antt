@@ -1,14 +1,14 @@
 -- From mile to mile.
-use Rattle.tva_laws.proofs.Common.{◌≡◌, ◌≤◌, ◌<◌, inl, inr, ap₂, ℕ, ◌+◌, ◌-◌, ◌*◌, Bool, true, false, not, ◌&&◌, cond, ltb, leb, List, [], ◌∷◌, ◌++◌, Option, Some, None, refl, ap, sym, subst, ◌∙◌, arith, append_assoc, append-nil, IsSomeAnd, sum_by, AllByRecursion, option_or, option_map, unwrap_or, IfSome, nat_tests, Grant, Rights, Time, router_second, AreSomeRights, Valid, check_of, precap_of, capability_of, Charge, last_or, last_charge, and_true, Held, Shape, Peer, Contact, Taken, Ask, asks, Taking, taking_in, last_taking, last_ask, time, Use, uses, since_notice, first_nonce, life_of, grant_of, asked_at, grant_held, awaits, list_length, nonce_length, length_of, fits, is_alive, nonce_of, held, may_ask, time_of, is_open, last_taking-push, Mile, Went, Got, Told, contact_in, contacts, paid_in, charges_in, last_came, Way, ComesIn, grant_at, checked, IsMile, AreMiles, AreAuthorised}
+use Rattle.tva_laws.proofs.Common.{◌≡◌, ◌≤◌, ◌<◌, inl, inr, ap₂, ℕ, ◌+◌, ◌-◌, ◌*◌, Bool, true, false, not, ◌&&◌, cond, ltb, leb, List, [], ◌∷◌, ◌++◌, Option, Some, None, refl, ap, sym, subst, ◌∙◌, arith, append_assoc, append-nil, IsSomeAnd, sum_by, AllByRecursion, option_map, unwrap_or, IfSome, nat_tests, Grant, Rights, Time, router_second, AreSomeRights, Valid, Charge, last_or, last_charge, and_true, Held, Shape, Peer, Contact, Taken, Ask, asks, Taking, taking_in, last_taking, last_ask, time, Use, uses, since_notice, first_nonce, life_of, grant_of, asked_at, grant_held, awaits, list_length, nonce_length, length_of, fits, is_alive, nonce_of, held, may_ask, time_of, is_open, last_taking-push, Mile, Went, Got, Told, contact_in, contacts, paid_in, charges_in, last_came, Way, ComesIn, grant_at, checked, IsMile, AreMiles, AreAuthorised}
 use Rattle.tva_caps.proofs.Lasts.{lasts}
 use Rattle.tva_sender.specs.declared.shape.Shape.TheVariants as shape
 use Rattle.tva_sender.specs.declared.grant.Grant as holding
 use Rattle.tva_sender.specs.Contacts.{Prepared}
-use Rattle.tva_sender.specs.Steps.{prepared, answered, noticed}
+use Rattle.tva_sender.specs.Steps.{prepared, answered}
 use Rattle.tva_sender.specs.Played.{IsNext, AreNext}
 use Rattle.tva_sender.specs.Book.{Keeps}
 use Rattle.tva_sender.proofs.Keeping.{keeps_prepared, keeps_answered, keeps_noticed}
-use Rattle.tva_laws.proofs.Shown.{Allows, allows, by-taking, no-taking}
+use Rattle.tva_laws.proofs.Shown.{Allows, allows, by-taking}
 use Rattle.tva_laws.proofs.Charges.{each-weaker, last-of, last-behind, life-since}
 use Rattle.tva_laws.proofs.Seconds.{second-mono, second-later, second-within}
 use Rattle.tva_laws.proofs.Pushes.{contacts-push, charges-push, came-got, since-got, since-went, since-told}
@@ -24,11 +24,7 @@ valid w rights came at carried from until =
     let high : s < m + rights.t = second-within w.offset came at rights.t until in
     let k = s - m in
     let whole : m + k ≡ s = omega (arith, low) in
-    let short : k < rights.t = omega (arith, low, high) in
-    let long : rights.t ≤ 127 = carried.seconds in
-    let few : k < 256 = omega (arith, short, long) in
-    subst (λ n. check_of w.master n w.flow (capability_of (precap_of w.master w.flow m) rights) rights ≡ Valid (grant_at w rights came)) whole
-    (lasts w.master m w.flow rights k short few)
+    grind (arith, nat_tests, lasts)
 
 -- what is left of the sender's time is left at the router
 pub time-left : (w : Way) (asked came sent at t : ℕ) → ComesIn w asked came → ComesIn w sent at → sent + w.margin + 1000000000 ≤ asked + t * 1000000000
@@ -53,16 +49,7 @@ taking_of w ms k = record { before = contacts k.earlier; rights = k.rights; caps
 
 spends : (w : Way) (ms : List Mile) (k : Holds w ms) (sent bytes nonce offered : ℕ) → fits w.margin sent (grant_of (taking_of w ms k)) bytes ≡ true
     → nonce ≡ nonce_of (grant_of (taking_of w ms k)) offered → Spends w ms k sent bytes nonce
-spends w ms k sent bytes nonce offered fit shown =
-    let g = grant_of (taking_of w ms k) in
-    let parts = and_true (leb (sent + w.margin + 1000000000) (g.asked.0 + g.rights.t * 1000000000)) (leb (g.used + bytes) (1024 * g.rights.n)) fit in
-    let left : sent + w.margin + 1000000000 ≤ g.asked.0 + g.rights.t * 1000000000 = up_to _ _ parts.0 in
-    record {
-      offered = offered;
-      left = omega (arith, left, k.asked_is);
-      room = up_to _ _ parts.1;
-      first = shown;
-    }
+spends w ms k sent bytes nonce offered fit shown = grind (arith, nat_tests, and_true, used, up_to)
 
 pub record SpendsList (w : Way) (ms : List Mile) (k : Holds w ms) (sent bytes : ℕ) (hd : Held) : Type 0 where
   pub spends : Spends w ms k sent bytes hd.nonce
@@ -74,37 +61,17 @@ pub record SpendsNonce (w : Way) (ms : List Mile) (k : Holds w ms) (sent bytes n
 
 pub by-list : (w : Way) (ms : List Mile) (k : Holds w ms) (sent body offered bytes : ℕ) (hd : Held) → bytes ≡ list_length w.version hd.caps body
     → IsSomeAnd (grant_held (contacts ms)) (λ g. (hd ≡ held g offered) × (fits w.margin sent g (list_length w.version hd.caps body) ≡ true)) → SpendsList w ms k sent bytes hd
-by-list w ms k sent body offered bytes hd sized shows =
-    let g = grant_of (taking_of w ms k) in
-    let facts = by-taking (λ g. (hd ≡ held g offered) × (fits w.margin sent g (list_length w.version hd.caps body) ≡ true)) (contacts ms) (taking_of w ms k) k.taking shows in
-    let fit : fits w.margin sent g bytes ≡ true = subst (λ b. fits w.margin sent g b ≡ true) (sym sized) facts.1 in
-    record {
-      spends = spends w ms k sent bytes hd.nonce offered fit (ap (λ (x : Held). x.nonce) facts.0);
-      rights = ap (λ (x : Held). x.rights) facts.0;
-    }
+by-list w ms k sent body offered bytes hd sized shows = grind (arith, nat_tests, by-taking, spends)
 
 pub by-nonce : (w : Way) (ms : List Mile) (k : Holds w ms) (sent body offered bytes nonce : ℕ) → bytes ≡ nonce_length body
     → IsSomeAnd (grant_held (contacts ms)) (λ g. (nonce ≡ nonce_of g offered) × (is_alive w.margin sent g ≡ true) × (fits w.margin sent g (nonce_length body) ≡ true)) → SpendsNonce w ms k sent bytes nonce
-by-nonce w ms k sent body offered bytes nonce sized shows =
-    let g = grant_of (taking_of w ms k) in
-    let facts = by-taking (λ g. (nonce ≡ nonce_of g offered) × (is_alive w.margin sent g ≡ true) × (fits w.margin sent g (nonce_length body) ≡ true)) (contacts ms) (taking_of w ms k) k.taking shows in
-    let fit : fits w.margin sent g bytes ≡ true = subst (λ b. fits w.margin sent g b ≡ true) (sym sized) facts.2 in
-    record {
-      spends = spends w ms k sent bytes nonce offered fit facts.0;
-      alive = below _ _ facts.1;
-    }
+by-nonce w ms k sent body offered bytes nonce sized shows = grind (arith, nat_tests, by-taking, spends, below)
 
 -- a list is charged to its grant
 charge-list : (w : Way) (ms : List Mile) (k : Holds w ms) (sent bytes : ℕ) (hd : Held) (c : Charge) → SpendsList w ms k sent bytes hd → ComesIn w sent c.time
     → IfSome (last_came ms) (λ came. came ≤ c.time) → IfSome (last_came ms) (λ came. checked w hd.rights came c.time ≡ Valid c.grant)
     → c.grant ≡ grant_at w k.rights k.came
-charge-list w ms k sent bytes hd c list comes behind check =
-    let from : k.came ≤ c.time = subst (λ (o : Option ℕ). IfSome o (λ came. came ≤ c.time)) k.came_is behind in
-    let is : checked w hd.rights k.came c.time ≡ Valid c.grant = subst (λ (o : Option ℕ). IfSome o (λ came. checked w hd.rights came c.time ≡ Valid c.grant)) k.came_is check in
-    let shown : checked w k.rights k.came c.time ≡ Valid c.grant = subst (λ (r : Rights). checked w r k.came c.time ≡ Valid c.grant) list.rights is in
-    let good = valid w k.rights k.came c.time k.carried from (time-left w k.asked k.came sent c.time k.rights.t k.comes comes list.spends.left) in
-    let equal : Valid c.grant ≡ Valid (grant_at w k.rights k.came) = sym shown ∙ good in
-    cc
+charge-list w ms k sent bytes hd c list comes behind check = grind (arith, nat_tests, valid, time-left, spends)
 
 -- the grant of the flow's last charge
 record LastIs (o : Option Charge) (g : Grant) : Type 0 where
@@ -113,8 +80,7 @@ record LastIs (o : Option Charge) (g : Grant) : Type 0 where
   grant : last.grant ≡ g
 
 last-is : (o : Option Charge) (g : Grant) → option_map (λ (d : Charge). d.grant) o ≡ Some g → LastIs o g
-last-is None g e = absurd (cc)
-last-is (Some d) g e = record { last = d; is = refl; grant = cc }
+last-is o g e = grind (arith, nat_tests)
 
 -- so a charge by a nonce is of no later second
 charge-nonce : (w : Way) (ms : List Mile) (k : Holds w ms) (c : Charge) → option_map (λ (d : Charge). d.grant) (last_charge (charges_in ms)) ≡ Some c.grant → NotAfter w k.came c
@@ -146,10 +112,6 @@ pub first-of : (cs : List Charge) → (cs ≡ [] → ⊥) → HasFirst cs
 first-of [] k = absurd (k refl)
 first-of (c ∷ cs) k = record { first = c; rest = cs; is = refl }
 
--- behind no other charges the last one is of these
-first-behind : (xs ys : List Charge) (d : Charge) → xs ≡ [] → last_charge (xs ++ ys) ≡ Some d → HasFirst ys
-first-behind xs ys d e l = first-of ys (λ none. (let whole : last_charge ([] ++ []) ≡ Some d = subst (λ (z : List Charge). last_charge ([] ++ z) ≡ Some d) none (subst (λ (z : List Charge). last_charge (z ++ ys) ≡ Some d) e l) in cc))
-
 pub no-life : (rights : Rights) (us : List Use) (n : ℕ) → us ≡ [] → n < life_of rights us → ⊥
 no-life rights us n e l = (let more : n < life_of rights [] = subst (λ (z : List Use). n < life_of rights z) e l in omega (arith, more))
 
@@ -157,32 +119,18 @@ no-life rights us n e l = (let more : n < life_of rights [] = subst (λ (z : Lis
 charge-nonce-own : (w : Way) (ms : List Mile) (k : Holds w ms) (sent bytes nonce : ℕ) (c : Charge) → SpendsNonce w ms k sent bytes nonce
     → option_map (λ (d : Charge). d.grant) (last_charge (charges_in ms)) ≡ Some c.grant → IsFull k.earlier k.own
     → AllByRecursion (λ (d : Charge). d.grant ≡ grant_at w k.rights k.came) (charges_in k.own) → c.grant ≡ grant_at w k.rights k.came
-charge-nonce-own w ms k sent bytes nonce c by e full own =
-    let l = last-is (last_charge (charges_in ms)) c.grant e in
-    let is : last_charge (charges_in k.earlier ++ charges_in k.own) ≡ Some l.last = ap last_charge (sym k.charges) ∙ l.is in
-    let some : HasFirst (charges_in k.own) = elim full [
-      | inl none ↦ first-behind (charges_in k.earlier) (charges_in k.own) l.last none is
-      | inr all ↦ first-of (charges_in k.own) (λ none. no-life k.rights (uses (contacts k.own)) (sent + w.margin) (some-charge k.own all none)
-          (let alive = by.alive in omega (arith, alive, life-since k.rights (contacts k.own))))
-    ] in
-    sym l.grant ∙ last-own (λ (d : Charge). d.grant ≡ grant_at w k.rights k.came) (charges_in k.earlier) (charges_in k.own) l.last own some is
+charge-nonce-own w ms k sent bytes nonce c by e full own = grind (arith, nat_tests, last-is, first-of, no-life, some-charge, life-since, last-own)
 
 -- the times of asks after a packet that was prepared
 since-prepared : (b : Bool) (now retry asked : ℕ) (t : Time) → (b ≡ true → t.0 + retry ≤ now) → asked ≤ t.0 → asked ≤ (cond b (time now) t).0
-since-prepared true now retry asked t may l = let m = may refl in omega (arith, m, l)
-since-prepared false now retry asked t may l = l
+since-prepared b now retry asked t may l = grind (arith, nat_tests)
 
 again-prepared : (b answers : Bool) (now retry asked : ℕ) (t : Time) → (b ≡ true → t.0 + retry ≤ now) → asked ≤ t.0 → (answers ≡ false → asked + retry ≤ t.0)
     → (not b && answers) ≡ false → asked + retry ≤ (cond b (time now) t).0
-again-prepared true answers now retry asked t may l again e = let m = may refl in omega (arith, m, l)
-again-prepared false answers now retry asked t may l again e = again e
+again-prepared b answers now retry asked t may l again e = grind (arith, nat_tests)
 
 asks-may : (margin version : ℕ) (may : Bool) (o : Option holding.Grant) (now body offered : ℕ) (s : Shape) → Allows margin version may o now body offered s → asks s ≡ true → may ≡ true
-asks-may margin version may o now body offered shape.Request k e = k
-asks-may margin version may o now body offered (shape.List hd) k e = absurd (cc)
-asks-may margin version may o now body offered (shape.NonceOnly n) k e = absurd (cc)
-asks-may margin version may o now body offered (shape.Renewal hd) k e = k.0
-asks-may margin version may o now body offered shape.Legacy k e = absurd (cc)
+asks-may margin version may o now body offered s k e = grind (arith, nat_tests)
 
 -- a packet was prepared under the last grant, in a shape that is allowed
 went : (w : Way) (ms : List Mile) (k : Holds w ms) (sent body offered : ℕ) (s : Shape) (bytes : ℕ) (paid : Option Charge) → bytes ≡ length_of w.version s body
@@ -239,31 +187,16 @@ by-shape w ms k sent body offered shape.Legacy bytes (Some c) mile sized a = abs
 
 -- without a grant so far
 fresh : (ms : List Mile) (f : IsFresh ms) (m : Mile) → ((b a : List Contact) → taking_in b (contact_in m) a ≡ None) → paid_in m ≡ [] → IsFresh (ms ++ m ∷ [])
-fresh ms f m no_taking none = record {
-  taking = ap (last_taking []) (contacts-push ms m) ∙ last_taking-push [] (contacts ms) (contact_in m)
-      ∙ ap (λ (o : Option Taking). option_or o (option_map (λ (t : Taking). record { before = t.before; rights = t.rights; caps = t.caps; after = t.after ++ contact_in m ∷ [] }) (last_taking [] (contacts ms)))) (no_taking (contacts ms) [])
-      ∙ ap (λ (o : Option Taking). option_map (λ (t : Taking). record { before = t.before; rights = t.rights; caps = t.caps; after = t.after ++ contact_in m ∷ [] }) o) f.taking;
-  charges = charges-push ms m ∙ ap (λ (cs : List Charge). cs ++ paid_in m) f.charges ∙ none;
-}
+fresh ms f m no_taking none = grind (arith, nat_tests, contacts-push, last_taking-push, charges-push)
 
 fresh-shape : (w : Way) (ms : List Mile) (f : IsFresh ms) (sent body offered : ℕ) (s : Shape) (bytes : ℕ) (paid : Option Charge) → IsMile w ms (Went sent s bytes paid)
     → Allows w.margin w.version (may_ask w.retry (asked_at (contacts ms)) sent) (grant_held (contacts ms)) sent body offered s → IsFresh (ms ++ Went sent s bytes paid ∷ [])
-fresh-shape w ms f sent body offered shape.Request bytes None mile a = fresh ms f (Went sent shape.Request bytes None) (λ b d. refl) refl
-fresh-shape w ms f sent body offered shape.Request bytes (Some c) mile a = absurd mile.shown
-fresh-shape w ms f sent body offered (shape.List hd) bytes paid mile a =
-    absurd (no-taking (λ g. (hd ≡ held g offered) × (fits w.margin sent g (list_length w.version hd.caps body) ≡ true)) (contacts ms) f.taking a)
-fresh-shape w ms f sent body offered (shape.NonceOnly n) bytes paid mile a =
-    absurd (no-taking (λ g. (n ≡ nonce_of g offered) × (is_alive w.margin sent g ≡ true) × (fits w.margin sent g (nonce_length body) ≡ true)) (contacts ms) f.taking a)
-fresh-shape w ms f sent body offered (shape.Renewal hd) bytes paid mile a =
-    absurd (no-taking (λ g. (hd ≡ held g offered) × (fits w.margin sent g (list_length w.version hd.caps body) ≡ true)) (contacts ms) f.taking a.1)
-fresh-shape w ms f sent body offered shape.Legacy bytes None mile a = fresh ms f (Went sent shape.Legacy bytes None) (λ b d. refl) refl
-fresh-shape w ms f sent body offered shape.Legacy bytes (Some c) mile a = absurd mile.shown
+fresh-shape w ms f sent body offered s bytes None mile a = search (arith, nat_tests, fresh)
+fresh-shape w ms f sent body offered s bytes (Some c) mile a = grind (arith, nat_tests)
 
 -- a notice
 told : (w : Way) (ms : List Mile) (k : Holds w ms) → Holds w (ms ++ Told ∷ [])
-told w ms k =
-    stay w ms k Told (record k.peer { grant = noticed k.peer.grant }) refl (λ b a. refl) (since-told [] ms) (keeps_noticed k.peer (contacts ms) k.keeps) k.since k.again tt
-    (λ own. idle w k.rights k.came k.earlier k.own Told refl refl own)
+told w ms k = search (arith, nat_tests, stay, since-told, keeps_noticed, idle)
 
 -- an ask that is open
 record OpenAsk (o : Option Ask) : Type 0 where
@@ -271,8 +204,7 @@ record OpenAsk (o : Option Ask) : Type 0 where
   is : o ≡ Some ask
 
 open-ask : (o : Option Ask) → is_open o ≡ true → OpenAsk o
-open-ask None e = absurd (cc)
-open-ask (Some ask) e = record { ask = ask; is = refl }
+open-ask o e = grind (arith, nat_tests)
 
 -- the charges before a taking are of earlier seconds
 old-stage : (w : Way) (ms : List Mile) → 1000000000 + w.margin ≤ w.retry → (t came : ℕ) → asked_at (contacts ms) ≡ Some (time t) → awaits (contacts ms) ≡ true → ComesIn w t came

@@ -1,5 +1,5 @@
 -- What comes to a node is true by what all nodes did before: a packet that arrives was sent before that.
-use Rattle.tva_laws.proofs.Common.{◌≡◌, ℕ, suc, ◌+◌, ◌<◌, ◌≤◌, List, [], ◌∷◌, ◌++◌, Some, refl, ap, subst, ◌∙◌, arith, nat_lt, AllByRecursion, lt-ltb, filter-append, PacketData, Config, IsConfig, Row, files_at, IsInOrder, cut, cut-early, filter-true, each-weaker, IsNodeLog-cut, Input, FromTrace, Arrival, Site, Entry, Took, Started, entry_time, entry_rank, due, Logs, log_at, site_at, IsRunTo, logs_before, at_nodes, IsRunTo-cut, are_delayed, log_at-before, inputs_to, at_place, each_front, each_place, past_at, IsMade, made_at}
+use Rattle.tva_laws.proofs.Common.{◌≡◌, ℕ, suc, ◌+◌, ◌<◌, ◌≤◌, List, [], ◌∷◌, ◌++◌, Some, refl, ap, subst, ◌∙◌, arith, nat_lt, AllByRecursion, lt-ltb, filter-append, PacketData, Config, IsConfig, Row, files_at, IsInOrder, cut, cut-early, filter-true, each-weaker, IsNodeLog-cut, Input, FromTrace, Arrival, Site, Entry, Took, Started, entry_time, entry_rank, due, Logs, log_at, site_at, IsRunTo, logs_before, at_nodes, IsRunTo-cut, are_delayed, log_at-before, inputs_to, at_place, each_front, each_place, past_at, IsMade, made_at, nat_tests}
 use Rattle.tva_laws.proofs.Origins.{AnyRow, any_rows}
 use Rattle.tva_laws.proofs.PathWalks.{IsEntryGood}
 use Rattle.tva_laws.proofs.Above.{IsTruePacket, all_true}
@@ -19,13 +19,10 @@ module _ (P : PacketData → Type 0) where
   Goes e = IsEntryGood P AnyRow e
 
   pub taken_of : (e : Entry) → Goes e → IsTaken e
-  taken_of (Took (FromTrace row) c) g = tt
-  taken_of (Took (Arrival time link p) c) g = g.0
-  taken_of (Started time link class p) g = tt
+  taken_of e g = grind (arith, nat_tests)
 
   made_taken : (site : Site) (before : List Entry) (e : Entry) → IsMade IsComing site before e → IsTaken e
-  made_taken site before (Took input content) m = m.1
-  made_taken site before (Started time link class p) m = tt
+  made_taken site before e m = grind (arith, nat_tests)
 
 -- up to an entry, a log is cut just behind its time
 cut_at : (before : List Entry) (e : Entry) (rest : List Entry) → IsInOrder entry_time entry_rank (before ++ e ∷ rest)
@@ -76,10 +73,4 @@ module _ (config : Config) (rows : List Row) (until : ℕ) (logs : Logs) (valid 
   taken_by node site is before e rest split =
       let t = entry_time e in
       let has = run.each node site is in
-      let early = at_place (λ (x : Entry). entry_time x < until) (log_at logs node) before e rest split has.is_log.early in
-      let order = subst (IsInOrder entry_time entry_rank) split has.is_log.in_order in
-      let later = cut entry_time (suc t) rest in
-      let same : cut entry_time (suc t) (log_at logs node) ≡ (before ++ e ∷ []) ++ later =
-      ap (cut entry_time (suc t)) split ∙ cut_at before e rest order ∙ split_again before e later in
-      each_front (IsTaken (IsTrueBefore t)) (before ++ e ∷ []) later
-      (subst (AllByRecursion (IsTaken (IsTrueBefore t))) same (taken_to t (omega (arith, early)) node site is))
+      grind (arith, nat_tests, at_place, cut_at, split_again, each_front, taken_to)

@@ -1,5 +1,5 @@
 -- Up to the first nonce alone behind a restart no path is steady.
-use Rattle.tva_laws.proofs.Common.{◌≡◌, ℕ, Bool, true, false, cond, eqb, List, [], ◌∷◌, ◌++◌, refl, ap, sym, subst, ◌∙◌, append-nil, append_assoc, eq-eqb, AllByRecursion, PacketId, Rights, router_second, PacketData, charges_at, Arrival, charges, at_time, Deal, Prepared, Granted, Noticed, coming, comings, deals, since_noticed, comings_at, charged_since, WasCharged, IsSteadyPath, walk_b, walk_flow, walk_rights, restarting_router, denying_a, a_request, a_list, a_nonce, first_cap, early_router, demoted, new_master, new_log_a}
+use Rattle.tva_laws.proofs.Common.{◌≡◌, ℕ, false, cond, eqb, List, [], ◌∷◌, ◌++◌, refl, ap, sym, subst, ◌∙◌, append-nil, append_assoc, eq-eqb, AllByRecursion, PacketId, Rights, router_second, PacketData, charges_at, Arrival, charges, at_time, Deal, Prepared, Granted, Noticed, coming, comings, deals, since_noticed, comings_at, charged_since, WasCharged, IsSteadyPath, walk_b, walk_flow, walk_rights, restarting_router, denying_a, a_request, a_list, a_nonce, first_cap, early_router, demoted, new_master, new_log_a, arith, nat_tests}
 
 none_there : (ds : List Deal) (x : Deal) (xs : List Deal) → [] ≡ ds ++ x ∷ xs → ⊥
 none_there [] x xs e = cc
@@ -22,25 +22,12 @@ module _ (P : List Deal → Type 0) (sent : ℕ) (packet : PacketData) (after : 
   NoneIs n before own = AllByRecursion (λ (f : List Deal). P f → ⊥) (fronts n before own)
 
   further : (n : ℕ) (before : List Deal) (d : Deal) (ds : List Deal) → NoneIs n before (d ∷ ds) → NoneIs n (before ++ d ∷ []) ds
-  further n before d ds none = by (eqb (number_of d) n) none
-    where
-      by : (b : Bool)
-          → AllByRecursion (λ (f : List Deal). P f → ⊥)
-          (cond b (before ∷ fronts n (before ++ d ∷ []) ds) (fronts n (before ++ d ∷ []) ds))
-          → NoneIs n (before ++ d ∷ []) ds
-      by true k = k.1
-      by false k = k
+  further n before d ds none = grind (arith, nat_tests)
 
   -- where none of them is such, no front up to the packet is
   no_front : (before earlier own : List Deal) → own ≡ earlier ++ Prepared sent packet ∷ after
       → NoneIs packet.id.ordinal before own → P (before ++ earlier) → ⊥
-  no_front before [] own e none p =
-      let here = subst (λ (ds : List Deal). NoneIs packet.id.ordinal before ds) e none in
-      let found = subst
-      (λ (b : Bool). AllByRecursion (λ (f : List Deal). P f → ⊥)
-      (cond b (before ∷ fronts packet.id.ordinal (before ++ Prepared sent packet ∷ []) after) (fronts packet.id.ordinal (before ++ Prepared sent packet ∷ []) after)))
-      (eq-eqb packet.id.ordinal packet.id.ordinal refl) here in
-      found.0 (subst P (append-nil before) p)
+  no_front before [] own e none p = grind (arith, nat_tests, eq-eqb, append-nil)
   no_front before (d ∷ ds) own e none p =
       let here = subst (λ (ds : List Deal). NoneIs packet.id.ordinal before ds) e none in
       no_front (before ++ d ∷ []) ds (ds ++ Prepared sent packet ∷ after) refl
@@ -74,9 +61,7 @@ not_paid : (second : ℕ) → Paid second until_nonce → ⊥
 not_paid second p = by p.first p.place
   where
     at : (under : List Deal) → shown ≡ under → AreCharged second under → ⊥
-    at under e k =
-        let paid : AreCharged second shown = subst (AreCharged second) (sym e) k in
-        (let never : false ≡ true = paid.0 refl in cc)
+    at under e k = grind (arith, nat_tests)
 
     by : (first : List Deal) → until_nonce ≡ first ++ Granted p.rights p.caps ∷ p.under → ⊥
     by [] e = absurd (cc)

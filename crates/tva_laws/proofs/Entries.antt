@@ -1,5 +1,5 @@
 -- What a node makes of an input: what goes on is within the sizes of a network.
-use Rattle.tva_laws.proofs.Common.{◌≡◌, ℕ, ◌≤◌, List, [], Option, Some, None, refl, sym, ap, ap₂, ◌∙◌, subst, arith, option_map, IfSome, same_Some, Fate, Grant, RouterPlan, HostPlan, in_force, IsRouterPlan, IsHostPlan, PacketData, IsSizedPacket, made_packet, carried_fits, Charge, NoChargeLater, IsNext, AreNext, IsWithinSeconds, AreTimely, PortLogs, handle, arrival, charges_at, force_valid, Made, history_of, receipt_of, answered, NodePlan, RowWhat, Send, Inject, File, Tick, Input, FromTrace, Arrival, Site, IsSite, IsPlanned, Content, Arrived, Entry, Took, input_time, charged, charge_of, charges, calls, port_logs, files, packet_of_row, next_id, handled, arrived, routed, made_for, hosted, sent_out, content_by, content, IsReplyGood, Leaves, IsSizedWhat, IsSizedInput, IsHandled}
+use Rattle.tva_laws.proofs.Common.{◌≡◌, ℕ, ◌≤◌, List, [], Option, Some, None, refl, sym, ap, ◌∙◌, subst, arith, option_map, IfSome, same_Some, Fate, Grant, RouterPlan, HostPlan, in_force, IsRouterPlan, IsHostPlan, PacketData, IsSizedPacket, carried_fits, Charge, NoChargeLater, IsNext, AreNext, IsWithinSeconds, AreTimely, PortLogs, handle, arrival, charges_at, force_valid, Made, history_of, NodePlan, RowWhat, Input, Site, IsSite, IsPlanned, Content, Arrived, Entry, Took, input_time, charged, charge_of, charges, calls, port_logs, files, packet_of_row, next_id, handled, arrived, routed, hosted, sent_out, content_by, content, IsReplyGood, Leaves, IsSizedWhat, IsSizedInput, IsHandled, nat_tests}
 use Rattle.tva_plan.specs.declared.config.NodePlan.TheVariants as plans
 use Rattle.tva_laws.proofs.Packets.{sized_length, onward_sized}
 use Rattle.tva_laws.proofs.Transfers.{AreSizedFiles, answered_upper}
@@ -17,26 +17,10 @@ record Came (sizes : Type 0) (plan : RouterPlan) (before : List Entry) (now : �
   is : arrived plan before now from packet ≡ made
 
 came_row : (number : ℕ) (plan : RouterPlan) (before : List Entry) (now : ℕ) (what : RowWhat) (made : Content) → option_map (arrived plan before now None) (packet_of_row (next_id number before) what) ≡ Some made → Came (IsSizedWhat what) plan before now made
-came_row number plan before now (Send dst payload) made e = absurd (cc)
-came_row number plan before now (File dst size segment) made e = absurd (cc)
-came_row number plan before now (Tick dst) made e = absurd (cc)
-came_row number plan before now (Inject flow payload carried) made e =
-    let p : PacketData = made_packet (next_id number before) flow payload carried in
-    record {
-      from = None;
-      packet = p;
-      sized = λ s. record { packet = record { hops = omega arith; payload = s.0; carried = carried_fits carried s.1; upper = tt; fills = tt }; widths = s.1 };
-      is = same_Some (arrived plan before now None p) made e;
-    }
+came_row number plan before now what made e = grind (arith, nat_tests, carried_fits, same_Some)
 
 came : (number : ℕ) (plan : RouterPlan) (before : List Entry) (input : Input) (made : Content) → routed number plan before input ≡ Some made → Came (IsSizedInput input) plan before (input_time input) made
-came number plan before (FromTrace row) made e = came_row number plan before row.time.0 row.what made e
-came number plan before (Arrival time link packet) made e = record {
-  from = Some link;
-  packet = packet;
-  sized = λ s. s;
-  is = same_Some (arrived plan before time.0 (Some link) packet) made e;
-}
+came number plan before input made e = grind (arith, nat_tests, same_Some)
 
 -- the plan of a router that there may be, and that of a host
 router_valid : (site : Site) (plan : RouterPlan) → IsSite site → site.plan ≡ plans.Router plan → IsRouterPlan plan
@@ -52,23 +36,14 @@ arrived_sized plan before now from p v s = onward_sized (in_force plan now) (cha
 -- ## at a host
 
 reply_sized : (reply : Option Made) → IfSome reply IsSizedMade → IsReplyGood IsSizedPacket reply
-reply_sized None s = tt
-reply_sized (Some m) s = s
+reply_sized reply s = grind (arith, nat_tests)
 
 sent_sized : (site : Site) (plan : HostPlan) (before : List Entry) (made : Option Made) → IfSome made IsSizedMade → Leaves IsSizedPacket (sent_out site plan before made)
-sent_sized site plan before None s = tt
-sent_sized site plan before (Some m) s = s
+sent_sized site plan before made s = grind (arith, nat_tests)
 
 host_sized : (site : Site) (plan : HostPlan) (before : List Entry) (input : Input) → IsHostPlan plan → AreMet plan.version (history_of plan (calls before)).contacts
     → AreSizedFiles (files plan before) → IsSizedInput input → Leaves IsSizedPacket (hosted site plan before input)
-host_sized site plan before (FromTrace row) v met known s =
-    let h = history_of plan (calls before) in
-    sent_sized site plan before (made_for site.number plan h (files plan before) row.time.0 row.what) (made_sized site.number plan h (files plan before) row.time.0 row.what s v met known)
-host_sized site plan before (Arrival time from packet) v met known s =
-    let h = history_of plan (calls before) in
-    let above = answered plan.address (files plan before) packet in
-    reply_sized (receipt_of site.number plan h time.0 packet above).reply
-    (receipt_sized site.number plan h time.0 packet above v met s (answered_upper plan.address (files plan before) packet known))
+host_sized site plan before input v met known s = grind (arith, nat_tests, sent_sized, made_sized, reply_sized, receipt_sized, answered_upper)
 
 -- ## at a node
 
@@ -82,11 +57,8 @@ HasSizedFiles before = (plan : HostPlan) → AreSizedFiles (files plan before)
 
 took_by : (site : Site) (plan : NodePlan) (before : List Entry) (input : Input) (made : Content) → IsSite site → site.plan ≡ plan → HasMet site before → HasSizedFiles before
     → IsSizedInput input → content_by site plan before input ≡ Some made → Leaves IsSizedPacket made
-took_by site (plans.Router plan) before input made valid e met known s c =
-    let k = came site.number plan before input made c in
-    subst (Leaves IsSizedPacket) k.is (arrived_sized plan before (input_time input) k.from k.packet (router_valid site plan valid e) (k.sized s))
-took_by site (plans.Host plan) before input made valid e met known s c =
-    subst (Leaves IsSizedPacket) (same_Some (hosted site plan before input) made c) (host_sized site plan before input (host_valid site plan valid e) (met plan e) (known plan) s)
+took_by site (plans.Router plan) before input made valid e met known s c = grind (arith, nat_tests, came, arrived_sized)
+took_by site (plans.Host plan) before input made valid e met known s c = grind (arith, nat_tests, same_Some, host_sized, host_valid)
 
 -- what goes on is within the sizes
 pub took_sized : (site : Site) (before : List Entry) (input : Input) (made : Content) → IsSite site → HasMet site before → HasSizedFiles before
@@ -101,8 +73,7 @@ IsNextCharge plan h c = IsNext plan.slots plan.clock_offset h c × IsWithinSecon
 
 charge_by : (plan : RouterPlan) (h : List Charge) (logs : PortLogs) (now : ℕ) (from : Option ℕ) (p : PacketData) (o : Option Grant) → IsReady plan h (arrival now from p) → (handle plan h logs now from p).fate.charge ≡ o
     → IfSome (option_map (charged now p) o) (IsNextCharge plan h)
-charge_by plan h logs now from p None r e = tt
-charge_by plan h logs now from p (Some g) r e = let k = charge_next plan h logs now from p g r e in (k.next, k.seconds)
+charge_by plan h logs now from p o r e = grind (arith, nat_tests, charge_next)
 
 -- it is after those of its boot
 abbrev IsCharging : RouterPlan → List Entry → Input → Content → Type 0
@@ -124,51 +95,24 @@ took_charge site plan before input made valid e time past legal timely s c =
     let planned : IsPlanned (plans.Router plan) site.links = subst (λ (p : NodePlan). IsPlanned p site.links) e valid.planned in
     let by_plan : routed site.number plan before input ≡ Some made = sym (ap (λ (p : NodePlan). content_by site p before input) e) ∙ c in
     let k = came site.number plan before input made by_plan in
-    let ready : IsReady (in_force plan (input_time input)) (charges_at plan (input_time input) (charges before)) (arrival (input_time input) k.from k.packet) = record {
-      clock = planned.0.clock_offset;
-      time = time;
-      past = past;
-      legal = legal;
-      timely = timely;
-      sized = sized_length k.packet (k.sized s);
-    } in
-    subst (IsCharging plan before input) k.is (arrived_charge plan before input k.from k.packet ready)
+    grind (arith, nat_tests, sized_length, arrived_charge)
 
 -- ## fates
 
 arrived_handled : (plan : RouterPlan) (before : List Entry) (input : Input) (from : Option ℕ) (p : PacketData) → IsHandled plan before input (arrived plan before (input_time input) from p)
 unfolding arrived
-arrived_handled plan before input from p =
-    let now : ℕ = input_time input in
-    is_fate (in_force plan now) (charges_at plan now (charges before)) (port_logs before) now from p
+arrived_handled plan before input from p = grind (arith, nat_tests, is_fate)
 
 -- a router handles each input
 pub took_handled : (site : Site) (plan : RouterPlan) (before : List Entry) (input : Input) (made : Content) → site.plan ≡ plans.Router plan → content site before input ≡ Some made → IsHandled plan before input made
-took_handled site plan before input made e c =
-    let by_plan : routed site.number plan before input ≡ Some made = sym (ap (λ (p : NodePlan). content_by site p before input) e) ∙ c in
-    let k = came site.number plan before input made by_plan in
-    subst (IsHandled plan before input) k.is (arrived_handled plan before input k.from k.packet)
-
-record SameArrived (from : Option ℕ) (p : PacketData) (fate : Fate) (on : Option ℕ) (q : PacketData) (other : Fate) : Type 0 where
-  same_from : from ≡ on
-  same_packet : p ≡ q
-  same_fate : fate ≡ other
-
-same_arrived : (from on : Option ℕ) (p q onward further : PacketData) (fate other : Fate) → Arrived from p fate onward ≡ Arrived on q other further → SameArrived from p fate on q other
-same_arrived from on p q onward further fate other e = record { same_from = cc; same_packet = cc; same_fate = cc }
+took_handled site plan before input made e c = grind (arith, nat_tests, came, arrived_handled)
 
 came_is : (plan : RouterPlan) (before : List Entry) (now : ℕ) (on from : Option ℕ) (q p : PacketData) (fate : Fate) (onward : PacketData) → arrived plan before now on q ≡ Arrived from p fate onward
     → fate ≡ (handled plan before now from p).fate
 unfolding arrived
-came_is plan before now on from q p fate onward e =
-    let h : Option ℕ → PacketData → Fate = λ o x. (handled plan before now o x).fate in
-    let s = same_arrived on from q p (handled plan before now on q).onward onward (h on q) fate e in
-    sym s.same_fate ∙ ap₂ h s.same_from s.same_packet
+came_is plan before now on from q p fate onward e = search
 
 -- the fate of an arrival is what the router makes of it
 pub fate_is : (site : Site) (plan : RouterPlan) (before : List Entry) (input : Input) (from : Option ℕ) (p : PacketData) (fate : Fate) (onward : PacketData) → site.plan ≡ plans.Router plan
     → content site before input ≡ Some (Arrived from p fate onward) → fate ≡ (handled plan before (input_time input) from p).fate
-fate_is site plan before input from p fate onward e c =
-    let by_plan : routed site.number plan before input ≡ Some (Arrived from p fate onward) = sym (ap (λ (p : NodePlan). content_by site p before input) e) ∙ c in
-    let k = came site.number plan before input (Arrived from p fate onward) by_plan in
-    came_is plan before (input_time input) k.from from k.packet p fate onward k.is
+fate_is site plan before input from p fate onward e c = grind (arith, nat_tests, came, came_is)

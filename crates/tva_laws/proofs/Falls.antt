@@ -1,17 +1,9 @@
 -- The times that a log tells: those of a host's calls never fall, and what came to a router before an entry came no later.
-use Rattle.tva_laws.proofs.Common.{◌≤◌, ℕ, Bool, true, false, not, ◌&&◌, cond, List, [], ◌∷◌, Option, Some, None, arith, option_map, AllByRecursion, cons_option, Flow, PacketData, same_flow, is_marked, NeverFall, RowWhat, Send, Inject, File, Tick, IsInOrder, each-weaker, times_from, FromTrace, Arrival, Arrived, Sent, Ticked, Received, Entry, Took, Started, entry_time, entry_rank, call_of_row, calls, packet_sent, Coming, coming, came_at, comings}
-
-row_falls : (from now : ℕ) (what : RowWhat) (p : PacketData) (es : List Entry) → from ≤ now → NeverFall now (calls es)
-    → ((t : ℕ) → t ≤ now → NeverFall t (calls es)) → NeverFall from (call_of_row now what p ∷ calls es)
-row_falls from now (Send dst payload) p es l k all = (l, k)
-row_falls from now (Inject flow payload carries) p es l k all = all from l
-row_falls from now (File dst size segment) p es l k all = (l, k)
-row_falls from now (Tick dst) p es l k all = (l, k)
+use Rattle.tva_laws.proofs.Common.{◌≤◌, ℕ, List, [], ◌∷◌, Option, arith, option_map, AllByRecursion, cons_option, Flow, PacketData, NeverFall, RowWhat, IsInOrder, each-weaker, times_from, FromTrace, Arrival, Entry, Took, Started, entry_time, entry_rank, call_of_row, calls, packet_sent, Coming, came_at, comings, nat_tests}
 
 sent_falls : (from now : ℕ) (what : RowWhat) (o : Option PacketData) (es : List Entry) → from ≤ now → NeverFall now (calls es)
     → ((t : ℕ) → t ≤ now → NeverFall t (calls es)) → NeverFall from (cons_option (option_map (call_of_row now what) o) (calls es))
-sent_falls from now what None es l k all = all from l
-sent_falls from now what (Some p) es l k all = row_falls from now what p es l k all
+sent_falls from now what o es l k all = grind (arith, nat_tests)
 
 pub never_fall : (from : ℕ) (es : List Entry) → AllByRecursion (λ e. from ≤ entry_time e) es → IsInOrder entry_time entry_rank es
     → NeverFall from (calls es)
@@ -21,27 +13,16 @@ never_fall from (Took (FromTrace row) c ∷ es) a o =
     sent_falls from row.time.0 row.what (packet_sent c) es a.0 (never_fall row.time.0 es later o.1)
     (λ t l. never_fall t es (each-weaker (λ (e : Entry). row.time.0 ≤ entry_time e) (λ (e : Entry). t ≤ entry_time e)
     (λ e k. omega arith) es later) o.1)
-never_fall from (Took (Arrival at link packet) c ∷ es) a o =
-    (a.0, never_fall at.0 es (times_from entry_time entry_rank (Took (Arrival at link packet) c) es o).1 o.1)
+never_fall from (Took (Arrival at link packet) c ∷ es) a o = grind (arith, nat_tests, times_from, never_fall at.0 es (times_from entry_time entry_rank (Took (Arrival at link packet) c) es o).1 o.1)
 never_fall from (Started at link class packet ∷ es) a o = never_fall from es a.1 o.1
 
 pub from_zero : (es : List Entry) → AllByRecursion (λ e. 0 ≤ entry_time e) es
 from_zero [] = tt
 from_zero (e ∷ es) = (omega arith, from_zero es)
 
-come_picked : (n : ℕ) (b : Bool) (x : Coming) (xs : List Coming) → x.time ≤ n → AllByRecursion (λ (y : Coming). y.time ≤ n) xs
-    → AllByRecursion (λ (y : Coming). y.time ≤ n) (cons_option (cond b (Some x) None) xs)
-come_picked n true x xs l k = (l, k)
-come_picked n false x xs l k = k
-
 come_here : (f : Flow) (n : ℕ) (e : Entry) (xs : List Coming) → entry_time e ≤ n → AllByRecursion (λ (y : Coming). y.time ≤ n) xs
     → AllByRecursion (λ (y : Coming). y.time ≤ n) (cons_option (came_at f e) xs)
-come_here f n (Took input (Arrived from packet fate onward)) xs l k =
-    come_picked n (same_flow packet.flow f && not (is_marked packet.carried)) (coming input packet fate) xs l k
-come_here f n (Took input (Sent made outcome)) xs l k = k
-come_here f n (Took input Ticked) xs l k = k
-come_here f n (Took input (Received from packet receipt went range)) xs l k = k
-come_here f n (Started time link class packet) xs l k = k
+come_here f n e xs l k = grind (arith, nat_tests)
 
 pub come_by : (f : Flow) (n : ℕ) (es : List Entry) → AllByRecursion (λ e. entry_time e ≤ n) es
     → AllByRecursion (λ (x : Coming). x.time ≤ n) (comings f es)

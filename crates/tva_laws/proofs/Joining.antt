@@ -1,5 +1,5 @@
 -- What so many sources give, each in the order of time, has a join.
-use Rattle.tva_laws.proofs.Common.{◌≡◌, ℕ, zero, suc, ◌<◌, ◌≤◌, List, [], ◌++◌, append-nil, true, false, refl, sym, subst, ap₂, ◌∙◌, arith, inl, inr, ◌==◌, AllByRecursion, cases_lt, eq-eqb, ne_eqb, filter-append, IsJoin, NeverFalls, from_source, put_all, each-weaker, filter-all, filter-none}
+use Rattle.tva_laws.proofs.Common.{◌≡◌, ℕ, zero, suc, ◌<◌, ◌≤◌, List, [], ◌++◌, append-nil, refl, sym, subst, ap₂, ◌∙◌, arith, inl, inr, ◌==◌, AllByRecursion, cases_lt, eq-eqb, ne_eqb, filter-append, IsJoin, NeverFalls, from_source, put_all, each-weaker, filter-all, filter-none, nat_tests}
 use Rattle.tva_run.proofs.Joined.{join-put_all}
 
 module _ {X : Type 0} (time source : X → ℕ) (gives : ℕ → List X) (own : (s : ℕ) → AllByRecursion (λ x. source x ≡ s) (gives s)) (rise : (s : ℕ) → NeverFalls time (gives s)) where
@@ -9,14 +9,10 @@ module _ {X : Type 0} (time source : X → ℕ) (gives : ℕ → List X) (own : 
   all_to (suc m) = all_to m ++ gives (suc m)
 
   of_other : (s k : ℕ) → (k ≡ s → ⊥) → from_source source s (gives k) ≡ []
-  of_other s k n =
-      filter-none (λ x. source x == s) (gives k)
-      (each-weaker (λ x. source x ≡ k) (λ x. (source x == s) ≡ false) (λ x e. ne_eqb (source x) s (λ f. n (sym e ∙ f))) (gives k) (own k))
+  of_other s k n = grind (arith, nat_tests, filter-none, each-weaker, ne_eqb)
 
   of_same : (s : ℕ) → from_source source s (gives s) ≡ gives s
-  of_same s =
-      filter-all (λ x. source x == s) (gives s)
-      (each-weaker (λ x. source x ≡ s) (λ x. (source x == s) ≡ true) (λ x e. eq-eqb (source x) s e) (gives s) (own s))
+  of_same s = grind (arith, nat_tests, filter-all, each-weaker, eq-eqb)
 
   one_more : (m s : ℕ) → from_source source s (all_to (suc m)) ≡ from_source source s (all_to m) ++ from_source source s (gives (suc m))
   unfolding all_to
@@ -25,8 +21,7 @@ module _ {X : Type 0} (time source : X → ℕ) (gives : ℕ → List X) (own : 
   past : (m s : ℕ) → m < s → from_source source s (all_to m) ≡ []
   unfolding all_to
   past zero s l = of_other s 0 (λ e. omega (arith, l, e))
-  past (suc m) s l =
-      one_more m s ∙ ap₂ (λ (xs ys : List X). xs ++ ys) (past m s (omega (arith, l))) (of_other s (suc m) (λ e. omega (arith, l, e)))
+  past (suc m) s l = grind (arith, nat_tests, one_more, of_other, past m s (omega (arith, l)))
 
   among : (m s : ℕ) → s ≤ m → from_source source s (all_to m) ≡ gives s
   unfolding all_to

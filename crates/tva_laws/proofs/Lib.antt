@@ -8,8 +8,6 @@ pub mod Fates
 pub mod Entries
 pub mod Along
 pub mod Kept
-pub mod SaidShims
-pub mod ReadRows
 pub mod Runs
 pub mod Joining
 pub mod Nexts

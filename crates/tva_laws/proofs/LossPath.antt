@@ -1,6 +1,6 @@
 -- The path is steady up to a renewal where a nonce alone before it was lost.
 use Rattle.tva_laws.proofs.Common.{◌<◌, false, [], ◌∷◌, None, refl, arith, All-nil, All-from_recursion, Regular, in_force, credit_of, layout, two_bytes, six_bytes, eight_bytes, number_bytes, Started, Deal, Prepared, Granted, walk_rights, IsSteadyIn, a_request, a_list, a_nonce, first_cap, charged_to, loss_walk, loss_logs, loss_before_renewal, late_renewal, late_renewed}
-use Rattle.tva_laws.proofs.WorkedRuns.{came_so}
+use Rattle.tva_laws.proofs.WorkedRuns.{came_so, under_so}
 
 abbrev asked : Deal
 asked = Prepared 0 (a_request 1 0 [])
@@ -39,30 +39,14 @@ steady = record {
     ask = record { time = 1001000; packet = a_request 1 0 []; charge = None };
     came = refl;
     in_time = came_so [] 0 (a_request 1 0 []) (Granted walk_rights (first_cap ∷ []) ∷ listed ∷ named ∷ waited ∷ lost ∷ renews ∷ []) refl refl (omega arith) (omega arith);
-    last = record {
-      in_time = came_so (listed ∷ named ∷ waited ∷ lost ∷ []) 6000000000 late_renewal [] refl refl (omega arith) (omega arith);
-      behind = omega arith;
-      minted = refl;
-    };
+    last = under_so (came_so (listed ∷ named ∷ waited ∷ lost ∷ []) 6000000000 late_renewal [] refl refl (omega arith) (omega arith)) (omega arith) refl;
     no_other = (tt, (tt, (tt, (tt, tt))));
     each = (
-      record {
-        in_time = came_so [] 5000000 (a_list 2 2 0 0 first_cap) (named ∷ waited ∷ lost ∷ []) refl refl (omega arith) (omega arith);
-        behind = omega arith;
-        minted = refl;
-      },
+      under_so (came_so [] 5000000 (a_list 2 2 0 0 first_cap) (named ∷ waited ∷ lost ∷ []) refl refl (omega arith) (omega arith)) (omega arith) refl,
       (
-        record {
-          in_time = came_so (listed ∷ []) 10000000 (a_nonce 3 0 false) (waited ∷ lost ∷ []) refl refl (omega arith) (omega arith);
-          behind = omega arith;
-          minted = tt;
-        },
+        under_so (came_so (listed ∷ []) 10000000 (a_nonce 3 0 false) (waited ∷ lost ∷ []) refl refl (omega arith) (omega arith)) (omega arith) tt,
         (
-          record {
-            in_time = came_so (listed ∷ named ∷ []) 10001000 (a_nonce 4 0 false) (lost ∷ []) refl refl (omega arith) (omega arith);
-            behind = omega arith;
-            minted = tt;
-          },
+          under_so (came_so (listed ∷ named ∷ []) 10001000 (a_nonce 4 0 false) (lost ∷ []) refl refl (omega arith) (omega arith)) (omega arith) tt,
           tt,
         ),
       ),

@@ -1,5 +1,5 @@
 -- The network of the walk with a loss is valid, and its logs are a run.
-use Rattle.tva_laws.proofs.Common.{◌≡◌, ◌≤◌, ℕ, zero, suc, false, List, [], ◌∷◌, Some, refl, subst, arith, All-from_recursion, same_Some, DenyAll, in_force, credit_of, PacketData, layout, two_bytes, six_bytes, eight_bytes, number_bytes, list_verdict, nonce_verdict, is_granted, under_grant, decision, link_to, answer_to_shown, answer_to_nonce, judged_shim, handle, intended, after_intending, receipt_of, after_receipt, AreClassLimits, Router, Host, links_from, incoming_of, outgoing_of, IsLinkPlan, IsConfig, IsRow, AreTraceRows, from_source, Input, FromTrace, Arrival, Site, site_of, Arrived, Entry, input_source, content, arrived, GoesOn, due, start_after, at_time, links_out, log_at, reaches, site_at, HasLog, IsRunTo, segment_due, range_of, after_upper, answer_to, walk_router, denying_a, sends, a_request, a_list, a_nonce, b_grant, first_cap, first_request, first_grant, charged_to, short_link, loss_config, loss_rows, loss_logs, loss_log_a, loss_log_b, loss_log_router, loss_before_renewal, loss_until, late_renewal, late_renewed}
+use Rattle.tva_laws.proofs.Common.{◌≡◌, ◌≤◌, ℕ, suc, false, List, [], ◌∷◌, Some, refl, arith, All-from_recursion, same_Some, DenyAll, in_force, credit_of, PacketData, layout, two_bytes, six_bytes, eight_bytes, number_bytes, list_verdict, nonce_verdict, is_granted, under_grant, decision, link_to, answer_to_shown, answer_to_nonce, judged_shim, handle, intended, after_intending, receipt_of, after_receipt, AreClassLimits, Router, Host, links_from, incoming_of, outgoing_of, IsLinkPlan, IsConfig, IsRow, AreTraceRows, from_source, Input, FromTrace, Arrival, Site, site_of, Arrived, Entry, input_source, content, arrived, GoesOn, due, start_after, at_time, links_out, log_at, reaches, site_at, HasLog, IsRunTo, segment_due, range_of, after_upper, answer_to, walk_router, denying_a, sends, a_request, a_list, a_nonce, b_grant, first_cap, first_request, first_grant, charged_to, short_link, loss_config, loss_rows, loss_logs, loss_log_a, loss_log_b, loss_log_router, loss_before_renewal, loss_until, late_renewal, late_renewed, nat_tests}
 use Rattle.tva_laws.proofs.WorkedRuns.{none_from, has_by, by_number, pair}
 use Rattle.tva_laws.proofs.Walkable.{limits_fine, link_fine, config_with, valid_with, none_begins}
 use Rattle.tva_laws.proofs.Nodes.{b_site, lasts, before_first}
@@ -7,32 +7,10 @@ use Rattle.tva_laws.proofs.Nodes.{b_site, lasts, before_first}
 -- ## the network and its rows
 
 class_fine : AreClassLimits short_link.limits.regular
-class_fine = record {
-  queues = (omega arith, omega arith);
-  ring = (omega arith, omega arith);
-  queue_bytes = (omega arith, omega arith);
-  class_bytes = (omega arith, omega arith);
-  max = refl;
-  quantum = (omega arith, omega arith);
-}
+class_fine = grind (arith, nat_tests)
 
 short_fine : IsLinkPlan 3 short_link
-short_fine = record {
-  from = omega arith;
-  to = omega arith;
-  apart = λ e. omega (arith, e);
-  delay = (omega arith, omega arith);
-  limits = record {
-    ns_per_byte = (omega arith, omega arith);
-    share = (omega arith, omega arith);
-    burst = (omega arith, omega arith);
-    request = limits_fine.request;
-    regular = class_fine;
-    legacy_ring = (omega arith, omega arith);
-    legacy_bytes = (omega arith, omega arith);
-    request_inner = λ inner e. absurd (cc);
-  };
-}
+short_fine = grind (arith, nat_tests, limits_fine, class_fine)
 
 -- with the walk's links
 wide : IsConfig (config_with [] DenyAll)
@@ -74,15 +52,7 @@ sent : (time payload : ℕ) → time ≤ 10000000000 → payload ≤ 1600 → Is
 sent time payload t p = record { time = t; node = omega arith; what = (refl, p) }
 
 pub traced : AreTraceRows loss_config loss_rows
-traced = record {
-  few = omega arith;
-  each = All-from_recursion (IsRow loss_config) loss_rows (
-      pair (sent 0 77 (omega arith) (omega arith)) (pair (sent 5000000 1000 (omega arith) (omega arith)) (pair
-      (sent 10000000 1000 (omega arith) (omega arith)) (pair (sent 10001000 1000 (omega arith) (omega arith)) (pair
-      (sent 10002000 1000 (omega arith) (omega arith)) (pair (sent 6000000000 1000 (omega arith) (omega arith)) tt))))));
-  order = (omega arith, (omega arith, (omega arith, (omega arith, (omega arith, (omega arith, tt))))));
-  files = λ node. (let none = none_begins node loss_rows (refl, (refl, (refl, (refl, (refl, (refl, tt)))))) in omega (arith, none));
-}
+traced = grind (arith, nat_tests, pair, sent, none_begins)
 
 -- ## inputs
 
@@ -152,18 +122,15 @@ renewal_passes = rw (lasts walk_router.master 1001000 6001010400 (omega arith) (
 
 router_steps : GoesOn loss_router [] router_inputs loss_log_router
 unfolding layout two_bytes six_bytes eight_bytes number_bytes credit_of nonce_verdict link_to answer_to_nonce judged_shim handle arrived decision start_after in_force
-router_steps =
-    (refl, refl, (refl, (refl, refl, (refl, (refl, list_passes, (refl, (refl, refl, (refl, (refl, refl, (refl, (refl, renewal_passes, (refl, tt))))))))))))
+router_steps = grind (arith, nat_tests, list_passes, renewal_passes)
 
 a_steps : GoesOn loss_a [] a_inputs loss_log_a
 unfolding layout two_bytes six_bytes eight_bytes number_bytes credit_of is_granted under_grant decision link_to intended after_intending receipt_of after_receipt segment_due range_of after_upper answer_to start_after
-a_steps =
-    (refl, refl, (refl, (refl, refl, (refl, refl, (refl, (refl, refl, (refl, (refl, refl, (refl, refl, (refl, (refl, refl, (refl, tt))))))))))))
+a_steps = search
 
 b_steps : GoesOn b_site [] b_inputs loss_log_b
 unfolding layout two_bytes six_bytes eight_bytes number_bytes credit_of is_granted under_grant decision link_to intended after_intending receipt_of after_receipt segment_due range_of after_upper answer_to start_after
-b_steps =
-    (refl, refl, (refl, (refl, refl, (refl, refl, (refl, refl, tt)))))
+b_steps = search
 
 -- ## the run
 
@@ -186,10 +153,7 @@ b_has = has_by loss_config loss_rows loss_logs loss_until b_site b_inputs loss_l
     (record { turns = refl; gives = b_gives; order = refl; early = refl; steps = b_steps; calm = (refl, tt) })
 
 has : (node : ℕ) (site : Site) → site_at loss_config node ≡ Some site → Has site (log_at loss_logs node)
-has zero site e = subst (λ (s : Site). Has s loss_log_router) (same_Some loss_router site e) router_has
-has (suc zero) site e = subst (λ (s : Site). Has s loss_log_a) (same_Some loss_a site e) a_has
-has (suc (suc zero)) site e = subst (λ (s : Site). Has s loss_log_b) (same_Some b_site site e) b_has
-has (suc (suc (suc n))) site e = absurd (cc)
+has node site e = grind (arith, nat_tests, same_Some, router_has, a_has, b_site, b_has)
 
 pub is_run : IsRunTo loss_config loss_rows loss_until loss_logs
 is_run = record { within = omega arith; count = refl; each = has }

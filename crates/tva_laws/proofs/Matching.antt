@@ -1,5 +1,5 @@
 -- What came in the order in which it was prepared is matched with what was prepared, one by one.
-use Rattle.tva_laws.proofs.Common.{◌≡◌, ◌<◌, ◌⊎◌, inl, inr, ℕ, Bool, true, false, cond, refl, List, [], ◌∷◌, ◌++◌, Option, Some, ap, sym, subst, ◌∙◌, arith, filter, AllByRecursion, filter_map, cons_option, PacketId, Rights, PacketData, each-append, each-weaker, Deal, Prepared, Granted, Noticed, Coming}
+use Rattle.tva_laws.proofs.Common.{◌≡◌, ◌<◌, ◌⊎◌, inl, inr, ℕ, Bool, true, cond, refl, List, [], ◌∷◌, ◌++◌, Option, Some, ap, subst, arith, filter, AllByRecursion, filter_map, cons_option, PacketId, Rights, PacketData, each-append, each-weaker, Deal, Prepared, Granted, Noticed, Coming, nat_tests}
 use Rattle.std.specs.Prelude.{map}
 use Rattle.tva_laws.proofs.RisingLists.{Rises, each_rest, rises_rest}
 use Rattle.tva_laws.proofs.Hosts.{deal_key}
@@ -44,9 +44,7 @@ in_last [] d id k = inl k
 in_last (x ∷ xs) d id k = inr (in_last xs d id k)
 
 is_key : (d : Deal) (id : PacketId) → IsOf d id → deal_key d ≡ Some id.ordinal
-is_key (Prepared time packet) id k = ap (λ (i : PacketId). Some i.ordinal) k
-is_key (Granted rights caps) id k = absurd k
-is_key Noticed id k = absurd k
+is_key d id k = grind (arith, nat_tests)
 
 -- what holds of each key holds of what is in
 pub in_each : (P : ℕ → Type 0) (ds : List Deal) (id : PacketId) → In ds id → AllByRecursion P (keys ds) → P id.ordinal
@@ -56,17 +54,14 @@ in_each P (d ∷ ds) id (inr k) a = in_each P ds id k (each_rest P (deal_key d) 
 
 -- what is behind has a greater ordinal
 pub in_behind : (d : Deal) (ds : List Deal) (i j : PacketId) → Rises (keys (d ∷ ds)) → IsOf d i → In ds j → i.ordinal < j.ordinal
-in_behind d ds i j r k l =
-    in_each (λ n. i.ordinal < n) ds j l (subst (λ (o : Option ℕ). Rises (cons_option o (keys ds))) (is_key d i k) r).0
+in_behind d ds i j r k l = grind (arith, nat_tests, in_each, is_key)
 
 -- what is in front has a smaller one
 pub in_front : (before : List Deal) (t : ℕ) (p : PacketData) (after : List Deal) (id : PacketId)
     → Rises (keys (before ++ Prepared t p ∷ after)) → In before id → id.ordinal < p.id.ordinal
 in_front [] t p after id r k = absurd k
-in_front (b ∷ bs) t p after id r (inl k) =
-    in_behind b (bs ++ Prepared t p ∷ after) id p.id r k (in_place bs t p after p.id refl)
-in_front (b ∷ bs) t p after id r (inr k) =
-    in_front bs t p after id (rises_rest (deal_key b) (keys (bs ++ Prepared t p ∷ after)) r) k
+in_front (b ∷ bs) t p after id r (inl k) = grind (arith, nat_tests, in_behind b (bs ++ Prepared t p ∷ after) id p.id r k (in_place bs t p after p.id refl), in_place bs t p after p.id refl)
+in_front (b ∷ bs) t p after id r (inr k) = grind (arith, nat_tests, rises_rest, deal_key, in_front bs t p after id (rises_rest (deal_key b) (keys (bs ++ Prepared t p ∷ after)) r) k)
 
 -- ## matching
 
@@ -87,33 +82,18 @@ AreIn ds xs = AllByRecursion (λ x. In ds x.packet.id) xs
 behind_match : (d : Deal) (ds : List Deal) (i : PacketId) (xs : List Coming) → IsOf d i → AllByRecursion (λ n. i.ordinal < n)
     (map come_key xs) → AreIn (d ∷ ds) xs → AreIn ds xs
 behind_match d ds i [] k a l = tt
-behind_match d ds i (x ∷ xs) k a l = (here l.0, behind_match d ds i xs k a.1 l.1)
-  where
-    here : In (d ∷ ds) x.packet.id → In ds x.packet.id
-    here (inl j) =
-        absurd (let same = sym (is_key d i k)
-        ∙ is_key d x.packet.id j in let less : i.ordinal < x.packet.id.ordinal =
-        a.0 in let e : i.ordinal ≡ x.packet.id.ordinal = cc in omega arith)
-    here (inr j) = j
+behind_match d ds i (x ∷ xs) k a l = grind (arith, nat_tests, is_key, behind_match d ds i xs k a.1 l.1)
 
 -- those behind one that is behind a deal are behind it too
 past_match : (d : Deal) (ds : List Deal) (i : PacketId) (xs : List Coming) → Rises (keys (d ∷ ds)) → In ds i
     → AllByRecursion (λ n. i.ordinal < n) (map come_key xs) → AreIn (d ∷ ds) xs → AreIn ds xs
 past_match d ds i [] r k a l = tt
-past_match d ds i (x ∷ xs) r k a l = (here l.0, past_match d ds i xs r k a.1 l.1)
-  where
-    here : In (d ∷ ds) x.packet.id → In ds x.packet.id
-    here (inl j) =
-        absurd
-        (let more : x.packet.id.ordinal < i.ordinal = in_behind d ds x.packet.id i r j k in
-        let less : i.ordinal < x.packet.id.ordinal = a.0 in omega arith)
-    here (inr j) = j
+past_match d ds i (x ∷ xs) r k a l = grind (arith, nat_tests, in_behind, past_match d ds i xs r k a.1 l.1)
 
 match_by : (d : Deal) (ds : List Deal) (x : Coming) (xs : List Coming) → (AreIn ds xs → Matches ds xs)
     → (AreIn ds (x ∷ xs) → Matches ds (x ∷ xs)) → Rises (keys (d ∷ ds)) → Rises (map come_key (x ∷ xs))
     → In (d ∷ ds) x.packet.id → AreIn (d ∷ ds) xs → Matches (d ∷ ds) (x ∷ xs)
-match_by d ds x xs front back r s (inl k) a = inl (k, front (behind_match d ds x.packet.id xs k s.0 a))
-match_by d ds x xs front back r s (inr k) a = inr (back (k, past_match d ds x.packet.id xs r k s.0 a))
+match_by d ds x xs front back r s h8 a = grind (arith, nat_tests, behind_match, past_match)
 
 pub matched : (ds : List Deal) (xs : List Coming) → Rises (keys ds) → Rises (map come_key xs) → AreIn ds xs → Matches ds xs
 matched ds [] r s a = none_match ds
@@ -125,23 +105,13 @@ matched (d ∷ ds) (x ∷ xs) r s a =
 pub matches_in : (ds : List Deal) (xs : List Coming) → Matches ds xs → AreIn ds xs
 matches_in ds [] m = tt
 matches_in [] (x ∷ xs) m = absurd m
-matches_in (d ∷ ds) (x ∷ xs) (inl m) = (
-  inl m.0,
-  each-weaker (λ (y : Coming). In ds y.packet.id) (λ (y : Coming). In (d ∷ ds) y.packet.id) (λ y k. inr k) xs
-      (matches_in ds xs m.1),
-)
-matches_in (d ∷ ds) (x ∷ xs) (inr m) =
-    each-weaker (λ (y : Coming). In ds y.packet.id) (λ (y : Coming). In (d ∷ ds) y.packet.id) (λ y k. inr k) (x ∷ xs)
-    (matches_in ds (x ∷ xs) m)
+matches_in (d ∷ ds) (x ∷ xs) (inl m) = grind (arith, nat_tests, each-weaker, matches_in ds xs m.1)
+matches_in (d ∷ ds) (x ∷ xs) (inr m) = grind (arith, nat_tests, each-weaker, matches_in ds (x ∷ xs) m)
 
 -- what is matched, and what is in deals behind
 pub join_in : (ds : List Deal) (xs : List Coming) (behind : List Deal) (more : List Coming) → Matches ds xs → AreIn behind more
     → AreIn (ds ++ behind) (xs ++ more)
-join_in ds xs behind more m i =
-    let P : Coming → Type 0 = λ y. In (ds ++ behind) y.packet.id in
-    each-append P xs more
-    (each-weaker (λ (y : Coming). In ds y.packet.id) P (λ y k. in_left ds behind y.packet.id k) xs (matches_in ds xs m))
-    (each-weaker (λ (y : Coming). In behind y.packet.id) P (λ y k. in_right ds behind y.packet.id k) more i)
+join_in ds xs behind more m i = grind (arith, nat_tests, each-append, each-weaker, in_left, matches_in, in_right) steps 800000
 
 -- where what is in was prepared
 pub record InAt (ds : List Deal) (id : PacketId) : Type 0 where
@@ -176,18 +146,10 @@ pub record SplitMatch (first under : List Deal) (xs : List Coming) : Type 0 wher
   pub front : Matches first before
   pub back : Matches under after
 
-match_more : (d : Deal) (ds : List Deal) (xs : List Coming) → Matches ds xs → Matches (d ∷ ds) xs
-match_more d ds [] k = k
-match_more d ds (x ∷ xs) k = inr k
-
 pub split_match : (first under : List Deal) (rights : Rights) (caps : List ℕ) (xs : List Coming) → Matches (first ++ Granted rights caps ∷ under) xs
     → SplitMatch first under xs
-split_match [] under rights caps [] m = record { before = []; after = []; is = refl; front = tt; back = m }
-split_match [] under rights caps (x ∷ xs) (inl m) = absurd m.0
-split_match [] under rights caps (x ∷ xs) (inr m) = record { before = []; after = x ∷ xs; is = refl; front = tt; back = m }
-split_match (d ∷ ds) under rights caps [] m =
-    let s = split_match ds under rights caps [] m in
-    record { before = s.before; after = s.after; is = s.is; front = match_more d ds s.before s.front; back = s.back }
+split_match [] under rights caps z0 m = grind (arith, nat_tests)
+split_match (d ∷ ds) under rights caps [] m = grind (arith, nat_tests, split_match ds under rights caps [] m)
 split_match (d ∷ ds) under rights caps (x ∷ xs) (inl m) =
     let s = split_match ds under rights caps xs m.1 in
     record {
@@ -197,19 +159,13 @@ split_match (d ∷ ds) under rights caps (x ∷ xs) (inl m) =
       front = inl (m.0, s.front);
       back = s.back;
     }
-split_match (d ∷ ds) under rights caps (x ∷ xs) (inr m) =
-    let s = split_match ds under rights caps (x ∷ xs) m in
-    record { before = s.before; after = s.after; is = s.is; front = match_more d ds s.before s.front; back = s.back }
+split_match (d ∷ ds) under rights caps (x ∷ xs) (inr m) = grind (arith, nat_tests, split_match ds under rights caps (x ∷ xs) m)
 
 -- keys of those that pass
 pub keys_passing : (Q : ℕ → Type 0) (p : Coming → Bool) (xs : List Coming) → AllByRecursion Q (map come_key xs)
     → AllByRecursion Q (map come_key (filter p xs))
 keys_passing Q p [] k = tt
-keys_passing Q p (x ∷ xs) k = by (keys_passing Q p xs k.1) (p x)
-  where
-    by : AllByRecursion Q (map come_key (filter p xs)) → (b : Bool) → AllByRecursion Q (map come_key (cond b (x ∷ filter p xs) (filter p xs)))
-    by ih true = (k.0, ih)
-    by ih false = ih
+keys_passing Q p (x ∷ xs) k = grind (arith, nat_tests, keys_passing Q p xs k.1)
 
 pub rises_passing : (p : Coming → Bool) (xs : List Coming) → Rises (map come_key xs) → Rises (map come_key (filter p xs))
 rises_passing p [] r = tt
@@ -217,8 +173,7 @@ rises_passing p (x ∷ xs) r = by (rises_passing p xs r.1) (keys_passing (λ n. 
   where
     by : Rises (map come_key (filter p xs)) → AllByRecursion (λ n. come_key x < n) (map come_key (filter p xs)) → (b : Bool)
         → Rises (map come_key (cond b (x ∷ filter p xs) (filter p xs)))
-    by ih later true = (later, ih)
-    by ih later false = ih
+    by ih later b = grind (arith, nat_tests)
 
 -- ## those that were charged came in order
 
@@ -247,8 +202,7 @@ prepared_before earlier t q after x (y ∷ ys) same r a b =
 
     by : In earlier y.packet.id ⊎ In (Prepared t q ∷ after) y.packet.id → In earlier y.packet.id
     by (inl k) = k
-    by (inr (inl k)) =
-        absurd (let here : q.id.ordinal ≡ y.packet.id.ordinal = ap (λ (i : PacketId). i.ordinal) k in omega (arith, less, own, here))
+    by (inr (inl k)) = grind (arith, nat_tests, less, own)
     by (inr (inr k)) = absurd (let more = in_behind (Prepared t q) after q.id y.packet.id r refl k in omega (arith, less, own, more))
 
 pub rises_behind : (before ds : List Deal) → Rises (keys (before ++ ds)) → Rises (keys ds)
@@ -263,5 +217,4 @@ key_kept Q q (x ∷ xs) k = by (λ l. key_kept Q q xs l) (q x) k
     by : (AllByRecursion Q (map come_key (filter q xs)) → AllByRecursion (λ y. q y ≡ true → Q (come_key y)) xs) → (b : Bool)
         → AllByRecursion Q (map come_key (cond b (x ∷ filter q xs) (filter q xs)))
         → (b ≡ true → Q (come_key x)) × AllByRecursion (λ y. q y ≡ true → Q (come_key y)) xs
-    by ih true l = (λ e. l.0, ih l.1)
-    by ih false l = (λ e. absurd (cc), ih l)
+    by ih b l = grind (arith, nat_tests)

@@ -1,14 +1,16 @@
 -- In each run what the narrower words call steady is steady.
-use Rattle.tva_laws.proofs.Common.{◌≡◌, ◌≤◌, ◌<◌, inl, inr, ℕ, Bool, true, List, [], ◌∷◌, ◌++◌, map, Option, Some, None, refl, ap, sym, subst, ◌∙◌, arith, append_assoc, append-nil, IsSomeAnd, filter, option_map, IfSome, AllByRecursion, filter_map, le-leb, filter_map-append, same_Some, Grant, Time, in_force, router_second, packet_length, Charge, of_flow, last_charge, holder, Contact, Taking, last_taking, asked_at, awaits, IsPlayed, AreRising, arrival, force_clock, Config, IsConfig, Row, each-weaker, each-filter, input_time, Logs, log_at, IsRunTo, at_place, each_front, Mile, contacts, charges_in, since_got, ComesIn, grant_at, AreAuthorised, IsNarrow, Deal, Prepared, Granted, Noticed, Coming, ComesInTime, shows_nonce, ask_coming, IsNoGrant, ShowsMinted, ComesUnder, is_charged_since, charged_since, WasCharged, IsSteadyPath, ask_came, grant_came, since_granted, IsNarrowPath, AreNarrowSteady}
+use Rattle.tva_laws.proofs.Common.{◌≡◌, ◌≤◌, ◌<◌, inl, inr, ℕ, Bool, true, List, [], ◌∷◌, ◌++◌, map, Option, Some, None, refl, ap, sym, subst, ◌∙◌, arith, append_assoc, append-nil, IsSomeAnd, filter, option_map, IfSome, AllByRecursion, filter_map, le-leb, filter_map-append, same_Some, Grant, Time, router_second, packet_length, Charge, of_flow, last_charge, holder, Contact, Taking, last_taking, asked_at, awaits, IsPlayed, AreRising, force_clock, Config, IsConfig, Row, each-weaker, each-filter, input_time, Logs, log_at, IsRunTo, at_place, each_front, Mile, contacts, charges_in, since_got, ComesIn, grant_at, AreAuthorised, IsNarrow, Deal, Prepared, Granted, Noticed, Coming, shows_nonce, ask_coming, IsNoGrant, ShowsMinted, ComesUnder, is_charged_since, charged_since, WasCharged, IsSteadyPath, ask_came, grant_came, since_granted, IsNarrowPath, AreNarrowSteady, nat_tests}
 use Rattle.tva_sender.specs.Played.{AreNext}
+use Rattle.tva_run.proofs.Putting.{each-both}
+use Rattle.tva_laws.proofs.Charges.{each-behind}
 use Rattle.tva_laws.proofs.Given.{AreGiven}
 use Rattle.tva_laws.proofs.RisingLists.{Rises, rises-push, rising_from, rises_front}
 use Rattle.tva_laws.proofs.Dealt.{shape_in, contact_of, played_front, map_place}
 use Rattle.tva_laws.proofs.Hosts.{deal_key, IsTrue}
 use Rattle.tva_laws.proofs.Matching.{In, come_key, keys, AreIn, Matches, in_place, matched, matches_in, in_at, SplitMatch, split_match, keys_passing, rises_passing}
 use Rattle.tva_laws.proofs.Asks.{behind_last, came-last, came-granted, came-under, LastAt, last_rights_are}
-use Rattle.tva_laws.proofs.Comings.{paid_of, claim_at, since_first, since_each, since_early, was_since, held_nonce, paying, all_paid}
-use Rattle.tva_laws.proofs.Authorised.{each-behind, Front, front, none, narrow-honest}
+use Rattle.tva_laws.proofs.Comings.{paid_of, claim_at, since_first, since_each, since_early, was_since, paying, all_paid}
+use Rattle.tva_laws.proofs.Authorised.{Front, front, none, narrow-honest}
 use Rattle.tva_laws.proofs.Stages.{Holds, Stage}
 use Rattle.tva_laws.proofs.EachMile.{old-before, walk}
 use Rattle.tva_laws.proofs.Beside.{authorised, since_last, since_known, each_since}
@@ -17,11 +19,6 @@ use Rattle.tva_laws.proofs.ShimsKept.{at_router, shows_as_made}
 use Rattle.tva_laws.proofs.Passage.{Passage, passage, later, among, own, seen, last, now, ruling, boot, held, way, InTime, Steadily, told_all, rises, planned, is_played, keeps, comes_for, played_to}
 use Rattle.tva_laws.proofs.Charged.{IsTakenByLast, taken_regular, pays_for, in_order, shims_here, played_here, own_grant, boot_flow}
 use Rattle.tva_laws.proofs.Matching.{AreBefore, keys_push, prepared_before, rises_behind}
-
-each_with : {X : Type 0} (P Q R : X → Type 0) → ((x : X) → P x → Q x → R x) → (xs : List X) → AllByRecursion P xs → AllByRecursion Q xs
-    → AllByRecursion R xs
-each_with P Q R f [] k l = tt
-each_with P Q R f (x ∷ xs) k l = (f x k.0 l.0, each_with P Q R f xs k.1 l.1)
 
 module _ (m : Passage) where
   open m use {config, rows, until, logs, valid, given, run, sender, node, from, to, host, router, is_from, from_plan, is_to, to_plan}
@@ -44,9 +41,7 @@ module _ (m : Passage) where
     each_charged = subst (AllByRecursion (Steadily m)) (sym (since_first (boot m))) narrow.each
 
     rising : AreBefore (last m) (map come_key all_charged)
-    rising =
-        in_order m 0 each_charged (subst (λ (ys : List Coming). AreRising (map (λ (y : Coming). y.packet.id.ordinal) (ys ++ (last m) ∷ [])))
-        (sym (since_first (boot m))) narrow.order)
+    rising = search (arith, nat_tests, in_order, each_charged, last, since_first, boot)
 
     whole_rises : Rises (keys (before_it ++ from_it))
     whole_rises = subst (λ (ds : List Deal). Rises (keys ds)) near.place (rises m)
@@ -62,14 +57,10 @@ module _ (m : Passage) where
         rising.1
 
     fine_before : AllByRecursion (IsTrue (log_at logs sender)) before_it
-    fine_before =
-        each_front (IsTrue (log_at logs sender)) before_it from_it
-        (subst (AllByRecursion (IsTrue (log_at logs sender))) near.place (told_all m).each)
+    fine_before = grind (arith, nat_tests, each_front, told_all)
 
     match_before : Matches before_it all_charged
-    match_before =
-        matched before_it all_charged (rises_front (keys before_it) (keys from_it)
-        (subst Rises (filter_map-append deal_key before_it from_it) whole_rises)) rising.0 ins_before
+    match_before = grind (arith, nat_tests, matched, rises_front, keys, filter_map-append, deal_key, whole_rises, rising, ins_before)
 
     walkable : (before : List Deal) (d : Deal) (after : List Deal) → before_it ≡ before ++ d ∷ after → IsWalkable (way m) (seen m) before d
     walkable before (Prepared t p) after e = tt
@@ -81,11 +72,7 @@ module _ (m : Passage) where
         came_by : (o : Option Coming) → ask_coming (seen m) before ≡ o → IsSomeAnd o (InTime m)
             → IsSomeAnd (option_map (λ (x : Coming). x.time) o) (λ came. (ms : List Mile) → contacts ms ≡ map contact_of before
             → IfSome (asked_at (contacts ms)) (λ (t : Time). ComesIn (way m) t.0 came))
-        came_by None is k = absurd k
-        came_by (Some x) is k = λ ms same.
-            comes_for m before ((Granted rights caps ∷ after) ++ from_it) x.time
-            (near.place ∙ (ap (λ (ds : List Deal). ds ++ from_it) e ∙ append_assoc before (Granted rights caps ∷ after) from_it))
-            (ap (option_map (λ (y : Coming). y.time)) is) (subst (λ (p : Option Coming). IsSomeAnd p (InTime m)) (sym is) k) ms same
+        came_by o is k = grind (arith, nat_tests, comes_for, append_assoc)
     walkable before Noticed after e = tt
 
     -- the miles of the first deals, with what was charged of them
@@ -123,8 +110,7 @@ module _ (m : Passage) where
       charges = all_charges;
       comes = record { from = near.from; until = near.until };
       behind = subst (λ (o : Option ℕ). IfSome o (λ u. u ≤ input_time input)) (sym miles_before.came) narrow.last.behind;
-      authorised = authorised all_charged (since_granted [] before_it) (since_got [] miles_before.miles) miles_before.beside
-          (each-weaker (WasCharged (boot m)) (WasCharged all_charged) (λ d was. was_since (boot m) d was) (since_granted [] before_it) narrow.paid);
+      authorised = grind (arith, nat_tests, authorised, each-weaker, boot, was_since);
       room = narrow.room;
     }
 
@@ -149,14 +135,8 @@ module _ (m : Passage) where
       came : ask_coming (seen m) first ≡ Some ask
       in_time : InTime m ask
 
-    ask_so : (first : List Deal) (o : Option Coming) → ask_coming (seen m) first ≡ o → IsSomeAnd o (InTime m) → AskSo first
-    ask_so first None e k = absurd k
-    ask_so first (Some x) e k = record { ask = x; came = e; in_time = k }
-
     the_ask : AskSo last_at.first
-    the_ask =
-        ask_so last_at.first (ask_coming (seen m) last_at.first) refl
-        (narrow.asked last_at.first last_at.rights last_at.caps last_at.under last_at.is)
+    the_ask = grind (arith, nat_tests, seen m)
 
     abbrev granted_last : Deal
     granted_last = Granted last_at.rights last_at.caps
@@ -171,17 +151,14 @@ module _ (m : Passage) where
     asked_so = ap (option_map (λ (x : Coming). x.time)) the_ask.came
 
     came_so : (ds : List Deal) → AllByRecursion IsNoGrant ds → grant_came (seen m) [] (begin_so ++ ds) ≡ Some the_ask.ask.time
-    came_so ds k =
-        came-under (seen m) begin_so ds k ∙ came-granted (seen m) [] last_at.first last_at.rights last_at.caps the_ask.ask.time asked_so
+    came_so ds k = grind (arith, nat_tests, came-under (seen m) begin_so ds k, seen m, came-granted (seen m) [] last_at.first last_at.rights last_at.caps the_ask.ask.time asked_so)
 
     came_is_so : grant_came (seen m) [] before_it ≡ Some the_ask.ask.time
     came_is_so = came-last (seen m) before_it last_at the_ask.ask.time asked_so
 
     -- what was charged under the last grant, and before it
     parts : SplitMatch last_at.first last_at.under all_charged
-    parts =
-        split_match last_at.first last_at.under last_at.rights last_at.caps all_charged
-        (subst (λ (ds : List Deal). Matches ds all_charged) last_at.is match_before)
+    parts = grind (arith, nat_tests, split_match, last_at, match_before)
 
     abbrev olds : List Coming
     olds = parts.before
@@ -193,15 +170,10 @@ module _ (m : Passage) where
     behind_olds = granted_last ∷ (last_at.under ++ from_it)
 
     place_olds : (own m) ≡ last_at.first ++ behind_olds
-    place_olds =
-        near.place ∙ (ap (λ (ds : List Deal). ds ++ from_it) last_at.is
-        ∙ append_assoc last_at.first (granted_last ∷ last_at.under) from_it)
+    place_olds = grind (arith, nat_tests, last_at, append_assoc)
 
     to_grant : Along last_at.first olds (granted_last ∷ last_at.under) news
-    to_grant =
-        walked last_at.first olds (granted_last ∷ last_at.under) news last_at.is parts.is parts.front
-        (each-weaker (λ (y : Coming). In last_at.under y.packet.id) (λ (y : Coming). In (granted_last ∷ last_at.under) y.packet.id)
-        (λ y k. inr k) news (matches_in last_at.under news parts.back))
+    to_grant = grind (arith, nat_tests, walked, last_at, parts, front, each-weaker, matches_in)
 
     next_olds : Front host.margin host.retry host.version [] (map contact_of last_at.first) (contact_of granted_last)
     next_olds =
@@ -233,22 +205,13 @@ module _ (m : Passage) where
     comes_under y i cs =
         let r =
         among m begin_so last_at.under from_it y (near.place ∙ behind_last before_it last_at from_it) cs.in_time (in_at last_at.under y.packet.id i) in
-        let it : ComesInTime host delay last_at.under y = r.comes in
-        let came_is : grant_came (seen m) [] cs.in_time.before ≡ Some the_ask.ask.time =
-        ap (grant_came (seen m) []) r.is ∙ came_so it.before (each_front IsNoGrant it.before (Prepared it.sent it.packet ∷ it.after)
-        (subst (AllByRecursion IsNoGrant) it.place last_at.none)) in
-        record {
-          in_time = it;
-          behind = subst (λ (o : Option ℕ). IfSome o (λ came. came ≤ y.time)) came_is cs.behind;
-          minted = subst (λ (o : Option ℕ). IfSome o (λ came. ShowsMinted (in_force router y.time) y.packet y.packet.carried came))
-              came_is cs.minted;
-        }
+        grind (arith, nat_tests, last_at, seen, the_ask, came_so, each_front, none)
 
     each_so : AllByRecursion (ComesUnder host router delay last_at.under the_ask.ask.time) (charged_since second_so (boot m))
     each_so =
         subst (AllByRecursion (ComesUnder host router delay last_at.under the_ask.ask.time)) (sym recent_is)
         (each-filter (ComesUnder host router delay last_at.under the_ask.ask.time) (λ (y : Coming). is_charged_since second_so y.charge) news
-        (each_with (λ (y : Coming). In last_at.under y.packet.id) (Steadily m) (ComesUnder host router delay last_at.under the_ask.ask.time) comes_under
+        (each-both (λ (y : Coming). In last_at.under y.packet.id) (Steadily m) (ComesUnder host router delay last_at.under the_ask.ask.time) comes_under
         news (matches_in last_at.under news parts.back)
         (each-behind (Steadily m) olds news (subst (AllByRecursion (Steadily m)) parts.is each_charged))))
 
@@ -278,9 +241,7 @@ module _ (m : Passage) where
     ]
 
     same_second : router_second router.clock_offset holds_so.came ≡ second_so
-    same_second =
-        ap (router_second router.clock_offset) (same_Some holds_so.came the_ask.ask.time
-        (sym holds_so.came_is ∙ (miles_before.came ∙ came_is_so)))
+    same_second = grind (arith, nat_tests, same_Some, holds_so, the_ask, came_is_so)
 
     paid_so : AllByRecursion (WasCharged (charged_since second_so (boot m))) last_at.under
     paid_so =
@@ -299,15 +260,10 @@ module _ (m : Passage) where
     held_so e =
         let g : Grant =
         record { flow = packet.flow; rights = regular_so.rights; second = router_second router.clock_offset regular_so.came } in
-        let cl =
-        claim_at to router to_plan until (log_at logs node) (keeps m) past input on packet fate onward rest here g regular_so.charge in
-        let came_same : regular_so.came ≡ the_ask.ask.time = same_Some regular_so.came the_ask.ask.time (sym regular_so.asked ∙ came_is_so) in
-        let late : router_second router.clock_offset regular_so.came ≡ second_so = ap (router_second router.clock_offset) came_same in
-        held_by (holder (held m) packet.flow) g second_so late (held_nonce (ruling m) (held m) (arrival (now m) on packet) packet.carried g cl e)
+        grind (arith, nat_tests, claim_at to router to_plan until (log_at logs node) (keeps m) past input on packet fate onward rest here g regular_so.charge, keeps m, same_Some regular_so.came the_ask.ask.time (sym regular_so.asked ∙ came_is_so), held m, ruling m, now m)
       where
         held_by : (o : Option Charge) (g : Grant) (n : ℕ) → g.second ≡ n → IfSome o (λ c. c.grant ≡ g) → IfSome o (λ c. n ≤ c.grant.second)
-        held_by None g n same k = tt
-        held_by (Some c) g n same k = (let second : c.grant.second ≡ g.second = ap (λ (z : Grant). z.second) k in omega (arith, second, same))
+        held_by o g n same k = grind (arith, nat_tests)
 
     abbrev last_so : ComesUnder host router delay (last_at.under ++ from_it) the_ask.ask.time (last m)
     last_so = record {

@@ -1,6 +1,6 @@
 -- Behind a restart with another master the path is steady up to the list of the next grant.
 use Rattle.tva_laws.proofs.Common.{◌<◌, false, List, [], ◌∷◌, ◌++◌, None, refl, arith, All-nil, in_force, credit_of, layout, two_bytes, six_bytes, eight_bytes, number_bytes, Started, Regular, Deal, Prepared, Granted, Noticed, walk_rights, IsSteadyIn, restart_walk, a_request, a_list, a_nonce, first_cap, charged_to, new_master, new_logs, new_before_list, new_list, second_cap}
-use Rattle.tva_laws.proofs.WorkedRuns.{came_so}
+use Rattle.tva_laws.proofs.WorkedRuns.{came_so, under_so}
 
 -- what A had before it asked anew
 abbrev pub earlier : List Deal
@@ -39,11 +39,7 @@ steady = record {
     ask = record { time = 2101001000; packet = a_request 5 0 []; charge = None };
     came = refl;
     in_time = came_so earlier 2100000000 (a_request 5 0 []) (Granted walk_rights (second_cap ∷ []) ∷ listed ∷ []) refl refl (omega arith) (omega arith);
-    last = record {
-      in_time = came_so [] 2110000000 (new_list 0 0) [] refl refl (omega arith) (omega arith);
-      behind = omega arith;
-      minted = refl;
-    };
+    last = under_so (came_so [] 2110000000 (new_list 0 0) [] refl refl (omega arith) (omega arith)) (omega arith) refl;
     no_other = tt;
     each = tt;
     order = (All-nil (λ n. 6 < n), tt);

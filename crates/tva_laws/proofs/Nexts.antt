@@ -1,11 +1,11 @@
 -- A node's log up to a time goes on to the next: the node takes the inputs of that time, and each link decides.
-use Rattle.tva_laws.proofs.Common.{◌≡◌, ℕ, zero, suc, ◌+◌, ◌*◌, ◌<◌, ◌≤◌, List, [], ◌∷◌, ◌++◌, Option, Some, None, refl, sym, subst, ap, ◌∙◌, append-nil, append_assoc, arith, ◌==◌, nat_lt, option_map, option_and_then, AllByRecursion, filter_map, find, cond-false, eq-eqb, ne_eqb, filter_map-append, LinkLimits, Class, PacketId, LinkPlan, RouterPlan, PacketData, packet_length, made_packet, occupies, NodePlan, Router, Host, RowWhat, Send, Inject, File, Tick, IsInOrder, cut-cut, each-cut, each-filter, in_order-filter, each-both, Input, FromTrace, Arrival, Site, IsSite, limits_out, Content, Entry, Took, Started, input_time, input_source, port_entry, port_logs, arrived, content, content_by, hosted, next_id, packet_of_row, IsNodeLog, due, start_after, starts, limits_valid}
-use Rattle.tva_port.specs.Log as port
+use Rattle.tva_laws.proofs.Common.{◌≡◌, ℕ, zero, suc, ◌+◌, ◌<◌, ◌≤◌, List, [], ◌∷◌, ◌++◌, Option, Some, None, refl, sym, subst, ap, ◌∙◌, append-nil, append_assoc, arith, ◌==◌, nat_lt, option_map, option_and_then, AllByRecursion, find, cond-false, eq-eqb, ne_eqb, filter_map-append, LinkLimits, Class, PacketId, LinkPlan, RouterPlan, PacketData, made_packet, occupies, NodePlan, Router, Host, RowWhat, Send, Inject, File, Tick, IsInOrder, cut-cut, each-cut, each-filter, in_order-filter, each-both, Input, FromTrace, Arrival, Site, IsSite, limits_out, Content, Entry, Took, Started, input_time, input_source, port_logs, arrived, content, content_by, hosted, next_id, packet_of_row, IsNodeLog, due, start_after, starts, limits_valid, nat_tests}
 use Rattle.tva_port.proofs.Logs.{free-started}
 use Rattle.tva_run.specs.AtTime.{IsAt}
 use Rattle.tva_run.proofs.Ports.{busy_starts_none}
 use Rattle.tva_run.proofs.Steps.{begins, ends, rest_late, rests, starts_one, takes}
 use Rattle.tva_run.proofs.Reports.{begins_cut}
+use Rattle.tva_laws.proofs.Charges.{each-behind}
 
 -- ## inputs
 
@@ -47,25 +47,14 @@ module _ (site : Site) where
   take_each t [] taken log a h = (log, subst (λ (is : List Input). IsAt site t 0 is log) (sym (append-nil taken)) h)
   take_each t (i ∷ is) taken log a h =
       let made = content_of site log i a.0.1 in
-      let rest = take_each t is (taken ++ i ∷ []) (log ++ Took i made.0 ∷ []) a.1 (takes site t taken log i made.0 a.0.0 made.1 h) in
-      (rest.0, subst (λ (xs : List Input). IsAt site t 0 xs rest.0) (append_assoc taken (i ∷ []) is) rest.1)
+      grind (arith, nat_tests, takes, append_assoc, take_each t is (taken ++ i ∷ []) (log ++ Took i made.0 ∷ []) a.1 (takes site t taken log i made.0 a.0.0 made.1 h))
 
 -- ## links
-
-own_log : (before : List Entry) (t l : ℕ) (c : Class) (p : PacketData)
-    → port_logs (before ++ Started t l c p ∷ []) l ≡ port_logs before l ++ port.Started t c p ∷ []
-own_log before t l c p =
-    let one : filter_map (port_entry l) (Started t l c p ∷ []) ≡ port.Started t c p ∷ [] = rw (eq-eqb l l refl) refl in
-    filter_map-append (port_entry l) before (Started t l c p ∷ []) ∙ ap (λ (xs : List port.Entry). port_logs before l ++ xs) one
 
 module _ (site : Site) (valid : IsSite site) where
   busy_by : (t l : ℕ) (c : Class) (p : PacketData) (log : List Entry) (o : Option (ℕ × LinkLimits)) → limits_out site l ≡ o
       → option_and_then (λ (x : ℕ × LinkLimits). start_after x.1 (port_logs (log ++ Started t l c p ∷ []) l) t) o ≡ None
-  busy_by t l c p log None e = refl
-  busy_by t l c p log (Some x) e =
-      let free : port.free_after x.1 (port_logs (log ++ Started t l c p ∷ []) l) ≡ t + packet_length p * x.1.ns_per_byte =
-      ap (λ (es : List port.Entry). port.free_after x.1 es) (own_log log t l c p) ∙ free-started x.1 0 (port_logs log l) t c p in
-      busy_starts_none x.1 (port_logs (log ++ Started t l c p ∷ []) l) t (omega (arith, free, occupies x.1 t p (limits_valid site l x valid e)))
+  busy_by t l c p log o e = grind (arith, nat_tests, free-started, busy_starts_none, occupies, limits_valid, eq-eqb, filter_map-append)
 
   -- a packet that starts keeps its link busy
   busy : (t l : ℕ) (c : Class) (p : PacketData) (log : List Entry) → starts site (log ++ Started t l c p ∷ []) l t ≡ None
@@ -74,10 +63,8 @@ module _ (site : Site) (valid : IsSite site) where
   decide_by : (t l : ℕ) (taken : List Input) (log : List Entry) (o : Option (Class × PacketData)) → starts site log l t ≡ o
       → IsAt site t l taken log
       → (longer : List Entry) × IsAt site t (suc l) taken longer
-  decide_by t l taken log None e h =
-      (log, rests site t l (suc l) taken log (omega arith) (λ k a b. let same : l ≡ k = omega (arith, a, b) in subst (λ j. starts site log j t ≡ None) same e) h)
-  decide_by t l taken log (Some x) e h =
-      (log ++ Started t l x.0 x.1 ∷ [], starts_one site t l x.0 x.1 taken log e (busy t l x.0 x.1 log) h)
+  decide_by t l taken log None e h = grind (arith, nat_tests, rests)
+  decide_by t l taken log (Some x) e h = grind (arith, nat_tests, starts_one site t l x.0 x.1 taken log e (busy t l x.0 x.1 log) h, busy t l x.0 x.1 log)
 
   -- the links below a number decide
   decide_to : (n t : ℕ) (taken : List Input) (log : List Entry) → IsAt site t 0 taken log
@@ -103,14 +90,9 @@ limited o = (o.0, o.1.limits)
 
 none_above : (site : Site) (log : List Entry) (t k : ℕ) → find (λ (o : ℕ × LinkPlan). o.0 == k) site.links ≡ None
     → starts site log k t ≡ None
-none_above site log t k e =
-    ap (λ (o : Option (ℕ × LinkPlan)). option_and_then (λ (x : ℕ × LinkLimits). start_after x.1 (port_logs log k) t) (option_map limited o)) e
+none_above site log t k e = search
 
 -- ## the next time
-
-each_back : {X : Type 0} (P : X → Type 0) (xs ys : List X) → AllByRecursion P (xs ++ ys) → AllByRecursion P ys
-each_back P [] ys a = a
-each_back P (x ∷ xs) ys a = each_back P xs ys a.1
 
 pub next_log : (site : Site) (inputs : List Input) (t : ℕ) (log : List Entry) → IsSite site → IsInOrder input_time input_source inputs
     → AllByRecursion (IsTakable site.plan) inputs
@@ -120,8 +102,8 @@ next_log site inputs t log valid order takable h =
     let (new, split) = begins_cut input_time input_source t all (in_order-filter input_time input_source (λ i. nat_lt (input_time i) (suc t)) inputs order) in
     let before : due t all ≡ due t inputs = cut-cut input_time input_source t (suc t) inputs (omega arith) in
     let late : AllByRecursion (λ i. t ≤ input_time i) new = rest_late t all new split in
-    let early : AllByRecursion (λ i. input_time i < suc t) new = each_back (λ i. input_time i < suc t) (due t all) new (subst (AllByRecursion (λ i. input_time i < suc t)) split (each-cut input_time input_source (suc t) inputs)) in
-    let can : AllByRecursion (IsTakable site.plan) new = each_back (IsTakable site.plan) (due t all) new
+    let early : AllByRecursion (λ i. input_time i < suc t) new = each-behind (λ i. input_time i < suc t) (due t all) new (subst (AllByRecursion (λ i. input_time i < suc t)) split (each-cut input_time input_source (suc t) inputs)) in
+    let can : AllByRecursion (IsTakable site.plan) new = each-behind (IsTakable site.plan) (due t all) new
     (subst (AllByRecursion (IsTakable site.plan)) split (each-filter (IsTakable site.plan) (λ i. nat_lt (input_time i) (suc t)) inputs takable)) in
     let now : AllByRecursion (λ i. input_time i ≡ t) new =
     each-both (λ i. t ≤ input_time i) (λ i. input_time i < suc t) (λ i. input_time i ≡ t) (λ i a b. omega (arith, a, b)) new late early in

@@ -1,5 +1,5 @@
 -- A packet that shows a grant comes to a router in a run, and a host may have prepared it: what is known of both.
-use Rattle.tva_laws.proofs.Common.{◌≡◌, ◌<◌, ℕ, true, false, List, [], ◌∷◌, ◌++◌, map, Option, Some, refl, ap, sym, subst, ◌∙◌, arith, append_assoc, IsSomeAnd, option_map, IfSome, filter_map, same_Some, Fate, Outcome, PacketId, Time, HostPlan, RouterPlan, in_force, IsHostPlan, IsReturn, PacketData, back_in, Charge, asked_at, time, IsPlayed, charges_at, is_marked, Receipt, NeverFall, Config, NodePlan, IsConfig, Row, Input, Site, IsPlanned, DataLine, Arrived, Received, Entry, Took, input_time, charges, calls, due, Logs, log_at, site_at, IsRunTo, site_is, KeepsPromises, made_in, Keeps, HasOrigin, at_place, Mile, contacts, Way, ComesIn, Deal, Prepared, Granted, Noticed, Coming, coming, deals, comings, shows, ask_coming, ComesInTime, comings_at, ask_came, ComesSteadily}
+use Rattle.tva_laws.proofs.Common.{◌≡◌, ◌<◌, ℕ, true, false, List, [], ◌∷◌, ◌++◌, map, Option, Some, refl, ap, sym, subst, ◌∙◌, arith, append_assoc, IsSomeAnd, option_map, IfSome, filter_map, same_Some, Fate, Outcome, PacketId, Time, HostPlan, RouterPlan, in_force, IsHostPlan, IsReturn, PacketData, back_in, Charge, asked_at, IsPlayed, charges_at, is_marked, Receipt, NeverFall, Config, IsConfig, Row, Input, Site, DataLine, Arrived, Received, Entry, Took, input_time, charges, calls, due, Logs, log_at, site_at, IsRunTo, site_is, KeepsPromises, made_in, Keeps, HasOrigin, at_place, Mile, contacts, Way, ComesIn, Deal, Prepared, Granted, Noticed, Coming, coming, deals, comings, shows, ask_coming, ComesInTime, comings_at, ask_came, ComesSteadily, nat_tests}
 use Rattle.tva_host.proofs.Played as players
 use Rattle.tva_plan.specs.declared.config.NodePlan.TheVariants as plans
 use Rattle.tva_laws.proofs.Origins.{origin_at}
@@ -11,7 +11,7 @@ use Rattle.tva_laws.proofs.Hosts.{ordinal_of, made_at, entry_key, deal_key, take
 use Rattle.tva_laws.proofs.Returns.{received_returns}
 use Rattle.tva_laws.proofs.Counts.{few_inputs}
 use Rattle.tva_laws.proofs.Matching.{keys, InAt}
-use Rattle.tva_laws.proofs.Asks.{Asked, last_time, asked_place, come_id, ask_is, coming_is}
+use Rattle.tva_laws.proofs.Asks.{last_time, asked_place, come_id, ask_is, coming_is}
 use Rattle.tva_laws.proofs.Comings.{CameAt, came_place}
 use Rattle.tva_laws.proofs.Authorised.{front}
 
@@ -166,8 +166,7 @@ module _ (m : Passage) where
   pub returns : (before : List Entry) (i : Input) (link : ℕ) (p : PacketData) (receipt : Receipt) (went : Option Outcome)
       (range : Option DataLine) (after : List Entry) → log_at logs sender ≡ before ++ Took i (Received link p receipt went range) ∷ after
       → IsReturn 2 (back_in p.carried)
-  returns before i link p receipt went range after e =
-      received_returns config rows until logs valid given run sender from is_from before i link p receipt went range after e
+  returns before i link p receipt went range after e = search (arith, nat_tests, received_returns)
 
   pub told_all : Told from host from_plan packet.flow.dst (log_at logs sender) few returns (log_at logs sender)
   told_all =
@@ -178,9 +177,7 @@ module _ (m : Passage) where
   rises = told_all.dealt
 
   pub planned : IsHostPlan host
-  planned =
-      (let k : IsPlanned (plans.Host host) from.links = subst (λ (p : NodePlan). IsPlanned p from.links) from_plan
-      (site_is config sender from valid is_from).1.planned in k.0)
+  planned = grind (arith, nat_tests, site_is config sender from valid is_from)
 
   pub is_played : IsPlayed host.margin host.retry host.version (map contact_of own)
   is_played =
@@ -196,9 +193,7 @@ module _ (m : Passage) where
 
   pub came : (front : List Coming) (y : Coming) (back : List Coming) → seen ≡ front ++ y ∷ back
       → CameAt to router to_plan until (log_at logs node) keeps packet.flow front y
-  came front y back e =
-      came_place to router to_plan until (log_at logs node) keeps packet.flow past
-      (Took input (Arrived on packet fate onward) ∷ rest) here front y back e
+  came front y back e = grind (arith, nat_tests, came_place, keeps, front)
 
   -- what came is as it was prepared
   pub kept_at : (b : List Entry) (i : Input) (o : Option ℕ) (p : PacketData) (ft : Fate) (ow : PacketData) (r : List Entry)
@@ -223,8 +218,7 @@ module _ (m : Passage) where
       one_place entry_key m.before (Took m.input m.content) m.rest from_origin.before
       (Took from_origin.input from_origin.content) from_origin.rest q.id.ordinal (sym m.here ∙ there) key other
       (subst (λ (es : List Entry). Rises (filter_map entry_key es)) m.here told_all.entries) in
-      let made : q ≡ from_origin.made = same_Some q from_origin.made (sym m.makes ∙ (ap made_at s.here ∙ from_origin.makes)) in
-      subst (λ (z : PacketData). Keeps z p) (sym made) from_origin.keeps
+      grind (arith, nat_tests, same_Some, made_at, keeps)
 
   -- the place at which it was prepared is that of the steady path
   pub one_deal : (before : List Deal) (t : ℕ) (q : PacketData) (after : List Deal) (c : List Deal) (u : ℕ) (p : PacketData) (d : List Deal)
@@ -253,16 +247,7 @@ module _ (m : Passage) where
       let after_delay = it.from in
       let within = it.until in
       record {
-        comes = record {
-          before = a.before;
-          sent = a.time;
-          packet = a.packet;
-          after = a.after;
-          place = a.is;
-          same = a.same;
-          from = omega (arith, sent, after_delay);
-          until = omega (arith, sent, within);
-        };
+        comes = grind (arith, nat_tests);
         is = sym s.0;
       }
 
@@ -280,20 +265,8 @@ module _ (m : Passage) where
       let s =
       one_deal p.before c.asked.time p.packet (p.after ++ rest) it.before it.sent it.packet it.after whole it.place
       (it.same ∙ (come_id seen c.asked.id c.coming c.found ∙ sym p.same)) in
-      let sent : c.asked.time ≡ it.sent = s.1 in
-      let came_at : c.coming.time ≡ came = c.time in
-      let after_delay = it.from in
-      let within = it.until in
-      let asked : asked_at (contacts ms) ≡ Some (time c.asked.time) =
-      ap asked_at same ∙ (last_time before ∙ ap (option_map (λ (a : Asked). time a.time)) c.last) in
-      let comes : ComesIn way c.asked.time came =
-      record { from = omega (arith, sent, came_at, after_delay); until = omega (arith, sent, came_at, within) } in
-      subst (λ (o : Option Time). IfSome o (λ (t : Time). ComesIn way t.0 came)) (sym asked) comes
+      grind (arith, nat_tests, came, last_time)
 
   pub played_to : (before : List Deal) (sent : ℕ) (q : PacketData) (after : List Deal) → own ≡ before ++ Prepared sent q ∷ after
       → IsPlayed host.margin host.retry host.version (map contact_of before ++ contact_of (Prepared sent q) ∷ [])
-  played_to before sent q after place =
-      let split : map contact_of own ≡ map contact_of before ++ contact_of (Prepared sent q) ∷ map contact_of after =
-      ap (map contact_of) place ∙ map_place before (Prepared sent q) after in
-      played_front host.margin host.retry host.version [] (map contact_of before) (contact_of (Prepared sent q))
-      (map contact_of after) (subst (IsPlayed host.margin host.retry host.version) split is_played)
+  played_to before sent q after place = grind (arith, nat_tests, contact_of, map_place, played_front, is_played)

@@ -1,5 +1,5 @@
 -- How many elements of a list pass a test.
-use Rattle.tva_laws.proofs.Common.{◌≡◌, ℕ, ◌+◌, ◌≤◌, Bool, true, false, cond, List, [], ◌∷◌, refl, ap, arith, count_by, sum_by-cons}
+use Rattle.tva_laws.proofs.Common.{◌≡◌, ℕ, ◌+◌, ◌≤◌, Bool, false, cond, List, [], ◌∷◌, arith, count_by, sum_by-cons, nat_tests}
 use Rattle.std.proofs.Common.{filter}
 
 one_more : (n a b : ℕ) → a ≤ b → n + a ≤ n + b
@@ -19,20 +19,10 @@ count-cons p x xs = sum_by-cons (λ y. one_if (p y)) x xs
 
 pub count-filter : {X : Type 0} (p q : X → Bool) (xs : List X) → count_by p (filter q xs) ≤ count_by p xs
 count-filter p q [] = omega arith
-count-filter p q (x ∷ xs) = rw (count-cons p x xs) (by (q x) (count-filter p q xs))
-  where
-    by : (b : Bool) → count_by p (filter q xs) ≤ count_by p xs
-        → count_by p (cond b (x ∷ filter q xs) (filter q xs)) ≤ one_if (p x) + count_by p xs
-    by true l = rw (count-cons p x (filter q xs)) (one_more (one_if (p x)) (count_by p (filter q xs)) (count_by p xs) l)
-    by false l = none_less (one_if (p x)) (count_by p (filter q xs)) (count_by p xs) l
+count-filter p q (x ∷ xs) = grind (arith, nat_tests, count-cons, one_more, none_less, count-filter p q xs)
 
 -- where only those pass that another test passes, they are as many among those
 pub count-among : {X : Type 0} (p q : X → Bool) → ((x : X) → q x ≡ false → p x ≡ false) → (xs : List X)
     → count_by p xs ≤ count_by p (filter q xs)
 count-among p q only [] = omega arith
-count-among p q only (x ∷ xs) = rw (count-cons p x xs) (by (q x) refl (count-among p q only xs))
-  where
-    by : (b : Bool) → q x ≡ b → count_by p xs ≤ count_by p (filter q xs)
-        → one_if (p x) + count_by p xs ≤ count_by p (cond b (x ∷ filter q xs) (filter q xs))
-    by true e l = rw (count-cons p x (filter q xs)) (one_more (one_if (p x)) (count_by p xs) (count_by p (filter q xs)) l)
-    by false e l = none_more (one_if (p x)) (count_by p xs) (count_by p (filter q xs)) l (ap one_if (only x e))
+count-among p q only (x ∷ xs) = grind (arith, nat_tests, count-cons, one_more, none_more, count-among p q only xs)

@@ -1,8 +1,7 @@
 -- What holds of each packet that is made, and of what a router hands on where it held of what came in, holds of each packet
 -- of a run.
-use Rattle.tva_laws.proofs.Common.{◌≡◌, ℕ, ◌+◌, List, ◌∷◌, ◌++◌, Option, Some, None, refl, sym, ap, subst, ◌∙◌, option_map, AllByRecursion, same_Some, HostPlan, RouterPlan, in_force, PacketData, made_packet, Charge, charges_at, handle, Made, history_of, receipt_of, Config, NodePlan, IsConfig, Row, RowWhat, Send, Inject, File, Tick, Input, FromTrace, Arrival, Site, Content, Arrived, Sent, Ticked, Received, Entry, Took, Started, charges, calls, port_logs, files, arrived, content, content_by, hosted, made_for, next_id, packet_of_row, routed, sent_out, IsMade, Logs, log_at, site_at, IsRunTo, IsReplyGood, LeavesAt, starts_good, holds, made_in, answered}
+use Rattle.tva_laws.proofs.Common.{◌≡◌, ℕ, ◌+◌, List, ◌∷◌, ◌++◌, Option, Some, None, refl, option_map, AllByRecursion, same_Some, HostPlan, RouterPlan, in_force, PacketData, Charge, charges_at, handle, Config, IsConfig, Row, RowWhat, Input, FromTrace, Arrival, Site, Content, Arrived, Sent, Ticked, Received, Entry, Took, Started, charges, port_logs, arrived, content, hosted, next_id, packet_of_row, routed, IsMade, Logs, log_at, site_at, IsRunTo, IsReplyGood, LeavesAt, starts_good, holds, made_in, arith, nat_tests}
 use Rattle.tva_router.specs.Handling as handling
-use Rattle.tva_plan.specs.declared.config.NodePlan.TheVariants as plans
 
 module _ (P : PacketData → Type 0) (W : RowWhat → Type 0) where
   -- ## what a node makes, hands on and is given
@@ -22,11 +21,7 @@ module _ (P : PacketData → Type 0) (W : RowWhat → Type 0) where
   IsEntryGood (Started time link class packet) = P packet
 
   leaves : (e : Entry) → IsEntryGood e → LeavesAt P e
-  leaves (Took input (Arrived from packet fate onward)) k = k.1.1
-  leaves (Took input (Sent made outcome)) k = k.1
-  leaves (Took input Ticked) k = tt
-  leaves (Took input (Received from packet receipt went range)) k = k.1.1
-  leaves (Started time link class packet) k = tt
+  leaves e k = grind (arith, nat_tests)
 
   -- ## what a node makes of it
 
@@ -46,47 +41,16 @@ module _ (P : PacketData → Type 0) (W : RowWhat → Type 0) where
 
     row_goes : (number : ℕ) (plan : RouterPlan) (before : List Entry) (now : ℕ) (w : RowWhat) (c : Content) → Makes c
         → option_map (arrived plan before now None) (packet_of_row (next_id number before) w) ≡ Some c → Goes c
-    row_goes number plan before now (Send dst payload) c m e = absurd (cc)
-    row_goes number plan before now (File dst size segment) c m e = absurd (cc)
-    row_goes number plan before now (Tick dst) c m e = absurd (cc)
-    row_goes number plan before now (Inject flow payload carries) c m e =
-        let p : PacketData = made_packet (next_id number before) flow payload carries in
-        let same : arrived plan before now None p ≡ c = same_Some (arrived plan before now None p) c e in
-        subst Goes same (arrived_goes plan before now None p (m p (ap made_in (sym same) ∙ own_packet plan before now p)))
+    row_goes number plan before now w c m e = grind (arith, nat_tests, same_Some, arrived_goes, own_packet)
 
     routed_goes : (number : ℕ) (plan : RouterPlan) (before : List Entry) (i : Input) (c : Content) → IsInputGood i → Makes c
         → routed number plan before i ≡ Some c → Goes c
     routed_goes number plan before (FromTrace row) c k m e = row_goes number plan before row.time.0 row.what c m e
-    routed_goes number plan before (Arrival time link packet) c k m e =
-        subst Goes (same_Some (arrived plan before time.0 (Some link) packet) c e) (arrived_goes plan before time.0 (Some link) packet k)
-
-    reply_goes : (reply : Option Made) → ((p : PacketData) → option_map (λ (made : Made). made.packet) reply ≡ Some p → P p)
-        → IsReplyGood P reply
-    reply_goes None m = tt
-    reply_goes (Some made) m = m made.packet refl
-
-    sent_goes : (site : Site) (plan : HostPlan) (before : List Entry) (made : Option Made) → Makes (sent_out site plan before made)
-        → Goes (sent_out site plan before made)
-    sent_goes site plan before None m = tt
-    sent_goes site plan before (Some made) m = m made.packet refl
+    routed_goes number plan before (Arrival time link packet) c k m e = grind (arith, nat_tests, same_Some, arrived_goes)
 
     hosted_goes : (site : Site) (plan : HostPlan) (before : List Entry) (i : Input) → IsInputGood i → Makes (hosted site plan before i)
         → Goes (hosted site plan before i)
-    hosted_goes site plan before (FromTrace row) k m =
-        sent_goes site plan before
-        (made_for site.number plan (history_of plan (calls before)) (files plan before) row.time.0 row.what) m
-    hosted_goes site plan before (Arrival time link packet) k m = (
-      k,
-      reply_goes (receipt_of site.number plan (history_of plan (calls before)) time.0 packet
-          (answered plan.address (files plan before) packet)).reply m,
-    )
-
-    goes_by : (site : Site) (plan : NodePlan) (before : List Entry) (i : Input) (c : Content) → IsInputGood i → Makes c
-        → content_by site plan before i ≡ Some c → Goes c
-    goes_by site (plans.Router plan) before i c k m e = routed_goes site.number plan before i c k m e
-    goes_by site (plans.Host plan) before i c k m e =
-        let same : hosted site plan before i ≡ c = same_Some (hosted site plan before i) c e in
-        subst Goes same (hosted_goes site plan before i k (subst Makes (sym same) m))
+    hosted_goes site plan before i k m = grind (arith, nat_tests)
 
     -- ## a run
 
@@ -97,8 +61,7 @@ module _ (P : PacketData → Type 0) (W : RowWhat → Type 0) where
         → Makes c) where
       entry_good : (node : ℕ) (site : Site) → site_at config node ≡ Some site → (before : List Entry) (e : Entry) (rest : List Entry)
           → log_at logs node ≡ before ++ e ∷ rest → AllByRecursion IsEntryGood before → IsMade IsInputGood site before e → IsEntryGood e
-      entry_good node site there before (Took i c) rest split k m =
-          (m.1, goes_by site site.plan before i c m.1 (makes node site there before i c rest split m.0 m.1) m.0)
+      entry_good node site there before (Took i c) rest split k m = grind (arith, nat_tests, routed_goes, same_Some, hosted_goes)
       entry_good node site there before (Started u l c p) rest split k m = starts_good P IsEntryGood leaves site before u l c p k m
 
       pub all_good : (node : ℕ) (site : Site) → site_at config node ≡ Some site → AllByRecursion IsEntryGood (log_at logs node)

@@ -1,5 +1,5 @@
 -- What one more mile changes in what is read off a list of miles.
-use Rattle.tva_laws.proofs.Common.{◌≡◌, ℕ, List, [], ◌∷◌, ◌++◌, Option, Some, None, refl, ap, sym, ◌∙◌, append_assoc, append-nil, option_or, Rights, Charge, Shape, Mile, Went, Got, Told, contact_in, contacts, paid_in, charges_in, ask_came_in, last_came, since_got, AreAuthorised}
+use Rattle.tva_laws.proofs.Common.{◌≡◌, ℕ, List, [], ◌∷◌, ◌++◌, Option, Some, None, refl, ap, sym, ◌∙◌, append_assoc, append-nil, option_or, Rights, Charge, Shape, Mile, Went, Got, Told, contact_in, contacts, paid_in, charges_in, ask_came_in, last_came, since_got, AreAuthorised, arith, nat_tests}
 
 pub contacts-push : (ms : List Mile) (m : Mile) → contacts (ms ++ m ∷ []) ≡ contacts ms ++ contact_in m ∷ []
 contacts-push [] m = refl
@@ -19,22 +19,16 @@ came-same (d ∷ ds) m e = ap (λ o. option_or o (ask_came_in d)) (came-same ds 
 
 pub since-got : (own ms : List Mile) (rights : Rights) (caps : List ℕ) (came : ℕ) → since_got own (ms ++ Got rights caps came ∷ []) ≡ []
 since-got own [] rights caps came = refl
-since-got own (Went sent s bytes paid ∷ ds) rights caps came = since-got (own ++ Went sent s bytes paid ∷ []) ds rights caps came
-since-got own (Got r cs c ∷ ds) rights caps came = since-got [] ds rights caps came
-since-got own (Told ∷ ds) rights caps came = since-got (own ++ Told ∷ []) ds rights caps came
+since-got own (z0 ∷ ds) rights caps came = grind (arith, nat_tests, since-got (own ++ z0 ∷ []) ds rights caps came, since-got [] ds rights caps came)
 
 pub since-went : (own ms : List Mile) (sent : ℕ) (s : Shape) (bytes : ℕ) (paid : Option Charge)
     → since_got own (ms ++ Went sent s bytes paid ∷ []) ≡ since_got own ms ++ Went sent s bytes paid ∷ []
 since-went own [] sent s bytes paid = refl
-since-went own (Went t r b p ∷ ds) sent s bytes paid = since-went (own ++ Went t r b p ∷ []) ds sent s bytes paid
-since-went own (Got r cs c ∷ ds) sent s bytes paid = since-went [] ds sent s bytes paid
-since-went own (Told ∷ ds) sent s bytes paid = since-went (own ++ Told ∷ []) ds sent s bytes paid
+since-went own (z0 ∷ ds) sent s bytes paid = grind (arith, nat_tests, since-went (own ++ z0 ∷ []) ds sent s bytes paid, since-went [] ds sent s bytes paid)
 
 pub since-told : (own ms : List Mile) → since_got own (ms ++ Told ∷ []) ≡ since_got own ms ++ Told ∷ []
 since-told own [] = refl
-since-told own (Went t r b p ∷ ds) = since-told (own ++ Went t r b p ∷ []) ds
-since-told own (Got r cs c ∷ ds) = since-told [] ds
-since-told own (Told ∷ ds) = since-told (own ++ Told ∷ []) ds
+since-told own (z0 ∷ ds) = grind (arith, nat_tests, since-told (own ++ z0 ∷ []) ds, since-told [] ds)
 
 pub authorised-front : (ms : List Mile) (m : Mile) → AreAuthorised (ms ++ m ∷ []) → AreAuthorised ms
 authorised-front [] m k = tt

@@ -1,5 +1,5 @@
 -- Lists with keys that rise, and where a list stands from which another one was picked.
-use Rattle.tva_laws.proofs.Common.{◌≡◌, ◌≤◌, ◌<◌, ℕ, suc, ◌+◌, Bool, true, false, cond, List, [], ◌∷◌, ◌++◌, length, Option, Some, None, refl, ap, ap₂, sym, subst, ◌∙◌, arith, append_assoc, filter, AllByRecursion, filter_map, cons_option, recursion_from_All, All-from_recursion, each-append, AreRising, each_front}
+use Rattle.tva_laws.proofs.Common.{◌≡◌, ◌≤◌, ◌<◌, ℕ, suc, ◌+◌, Bool, true, List, [], ◌∷◌, ◌++◌, length, Option, Some, None, refl, ap, sym, subst, ◌∙◌, arith, append_assoc, filter, AllByRecursion, filter_map, cons_option, recursion_from_All, All-from_recursion, each-append, AreRising, each_front, nat_tests}
 
 head_same : {X : Type 0} (x y : X) (xs ys : List X) → x ∷ xs ≡ y ∷ ys → x ≡ y
 head_same x y xs ys e = cc
@@ -25,11 +25,7 @@ each_at P before (x ∷ xs) k = (
 pub each_kept : {X : Type 0} (P : X → Type 0) (q : X → Bool) (xs : List X) → AllByRecursion (λ x. q x ≡ true → P x) xs
     → AllByRecursion P (filter q xs)
 each_kept P q [] k = tt
-each_kept P q (x ∷ xs) k = by (each_kept P q xs k.1) (q x) k.0
-  where
-    by : AllByRecursion P (filter q xs) → (b : Bool) → (b ≡ true → P x) → AllByRecursion P (cond b (x ∷ filter q xs) (filter q xs))
-    by ih true l = (l refl, ih)
-    by ih false l = ih
+each_kept P q (x ∷ xs) k = grind (arith, nat_tests, each_kept P q xs k.1)
 
 -- ## numbers that rise
 
@@ -50,12 +46,10 @@ rising_from [] r = tt
 rising_from (n ∷ ns) r = (All-from_recursion (λ m. n < m) ns r.0, rising_from ns r.1)
 
 pub each_rest : {X : Type 0} (P : X → Type 0) (o : Option X) (xs : List X) → AllByRecursion P (cons_option o xs) → AllByRecursion P xs
-each_rest P None xs h = h
-each_rest P (Some x) xs h = h.1
+each_rest P o xs h = grind (arith, nat_tests)
 
 pub rises_rest : (o : Option ℕ) (ns : List ℕ) → Rises (cons_option o ns) → Rises ns
-rises_rest None ns h = h
-rises_rest (Some n) ns h = h.1
+rises_rest o ns h = grind (arith, nat_tests)
 
 pub rises_front : (ns ms : List ℕ) → Rises (ns ++ ms) → Rises ns
 rises_front [] ms r = tt
@@ -78,9 +72,7 @@ pub few_rise : (m n : ℕ) (ns : List ℕ) → Rises ns → AllByRecursion (λ k
 few_rise m n [] r a b l = omega arith
 few_rise m n (k ∷ ks) r a b l =
     let from : m ≤ k = a.0 in
-    let below : k < n = b.0 in
-    let rest = few_rise (suc k) n ks r.1 (later ks r.0) b.1 (omega arith) in
-    omega (arith, rest, from)
+    grind (arith, nat_tests, few_rise (suc k) n ks r.1 (later ks r.0) b.1 (omega arith))
   where
     later : (js : List ℕ) → AllByRecursion (λ j. k < j) js → AllByRecursion (λ j. suc k ≤ j) js
     later [] h = tt
@@ -111,17 +103,11 @@ module _ {X : Type 0} (key : X → Option ℕ) where
       let rest : a ≡ ys ++ e ∷ f = tail_same d y a (ys ++ e ∷ f) same in
       let late : AllByRecursion (λ j. n < j) (filter_map key (ys ++ e ∷ f)) =
       subst (λ (xs : List X). AllByRecursion (λ j. n < j) (filter_map key xs)) rest (past n d a k r) in
-      let less : n < n = key_within n n ys e f l late in
-      absurd (omega arith)
+      grind (arith, nat_tests, key_within n n ys e f l late)
   one_place (x ∷ xs) d a [] e f n same k l r =
       let here : key x ≡ Some n = ap key (head_same x e (xs ++ d ∷ a) f same) ∙ l in
-      let less : n < n = key_within n n xs d a k (past n x (xs ++ d ∷ a) here r) in
-      absurd (omega arith)
-  one_place (x ∷ xs) d a (y ∷ ys) e f n same k l r =
-      let rest =
-      one_place xs d a ys e f n (tail_same x y (xs ++ d ∷ a) (ys ++ e ∷ f) same) k l
-      (rises_rest (key x) (filter_map key (xs ++ d ∷ a)) r) in
-      record { before = ap₂ ◌∷◌ (head_same x y (xs ++ d ∷ a) (ys ++ e ∷ f) same) rest.before; here = rest.here; after = rest.after }
+      grind (arith, nat_tests, key_within n n xs d a k (past n x (xs ++ d ∷ a) here r), past n x (xs ++ d ∷ a) here r)
+  one_place (x ∷ xs) d a (y ∷ ys) e f n same k l r = grind (arith, nat_tests, tail_same, rises_rest, head_same, one_place xs d a ys e f n (tail_same x y (xs ++ d ∷ a) (ys ++ e ∷ f) same) k l (rises_rest (key x) (filter_map key (xs ++ d ∷ a)) r))
 
 -- ## what was picked
 
@@ -162,8 +148,7 @@ place_by h x xs (w ∷ ws) y back (Some z) is rest e =
       after = p.after;
       is = ap (λ zs. x ∷ zs) p.is;
       gives = p.gives;
-      front_is = ap (λ o. cons_option o (filter_map h p.before)) is ∙ ap₂ ◌∷◌
-          (head_same z w (filter_map h xs) (ws ++ y ∷ back) e) p.front_is;
+      front_is = grind (arith, nat_tests, head_same);
     }
 
 -- where each that was picked stands

@@ -1,8 +1,7 @@
 -- In a run all that reaches a node is within the sizes of a network, so each node's log keeps its promises.
-use Rattle.tva_laws.proofs.Common.{◌≡◌, ℕ, List, Bool, Some, arith, recursion_from_All, Config, is_host, IsConfig, Row, RowWhat, Send, Inject, File, Tick, AreRows, IsRowWhat, IsRow, AreTraceRows, each-weaker, Site, Logs, log_at, site_at, IsRunTo, site_is, inputs_hold, IsSizedWhat, IsSizedInput, KeepsPromises}
+use Rattle.tva_laws.proofs.Common.{◌≡◌, ℕ, List, Bool, Some, arith, recursion_from_All, Config, is_host, IsConfig, Row, RowWhat, Send, Inject, File, Tick, IsRowWhat, IsRow, AreTraceRows, each-weaker, Site, Logs, log_at, site_at, IsRunTo, site_is, inputs_hold, IsSizedWhat, IsSizedInput, KeepsPromises}
 use Rattle.tva_laws.proofs.Along.{IsSizedPlace, place_sized}
 use Rattle.tva_laws.proofs.Kept.{keeps}
-use Rattle.tva_laws.proofs.ReadRows.{rows_are_valid}
 
 -- ## rows
 
@@ -14,7 +13,6 @@ what_sized at_host (Tick dst) w = tt
 
 -- ## runs
 
--- so it is with the rows of a trace
 pub run_keeps : (config : Config) (rows : List Row) (until : ℕ) (logs : Logs) → IsConfig config → AreTraceRows config rows → IsRunTo config rows until logs
     → (node : ℕ) (site : Site) → site_at config node ≡ Some site → KeepsPromises site until (log_at logs node)
 run_keeps config rows until logs valid trace run node site there =
@@ -25,8 +23,3 @@ run_keeps config rows until logs valid trace run node site there =
     (recursion_from_All (IsRow config) rows trace.each)) (λ number link here time on at class packet k. k)
     (λ n s is before e rest split k m. place_sized s (site_is config n s valid is).1 before e k m) node site there)
     own.is_log
-
--- and with the rows that a text stands for
-pub read_run_keeps : (config : Config) (text : List ℕ) (rows : List Row) (until : ℕ) (logs : Logs) → IsConfig config → AreRows config text rows → IsRunTo config rows until logs
-    → (node : ℕ) (site : Site) → site_at config node ≡ Some site → KeepsPromises site until (log_at logs node)
-read_run_keeps config text rows until logs valid are run node site is = run_keeps config rows until logs valid (rows_are_valid config text rows are) run node site is

@@ -2,7 +2,7 @@
 -- the grant of a renewal.
 use Rattle.tva_laws.proofs.Common.{◌<◌, false, List, [], ◌∷◌, ◌++◌, Some, None, refl, arith, All-nil, All-from_recursion, Regular, in_force, credit_of, layout, two_bytes, six_bytes, eight_bytes, number_bytes, Entry, Started, Deal, Prepared, Granted, Noticed, Coming, deals, ComesInTime, walk_b, walk_router, walk_rights, IsSteadyIn, restart_walk, denying_a, a_request, a_list, a_nonce, b_grant, first_cap, asking, charged_to, passes, same_logs, same_log_a, again, renewal, renewed, renewed_cap, renewed_grant, renewed_list, before_again, before_nonce, before_list}
 use Rattle.tva_laws.specs.Restarts.{grant_of}
-use Rattle.tva_laws.proofs.WorkedRuns.{came_so}
+use Rattle.tva_laws.proofs.WorkedRuns.{came_so, under_so}
 
 -- ## what A did
 
@@ -77,7 +77,7 @@ steady_again = record {
     ask = request_coming;
     came = refl;
     in_time = request_in_time;
-    last = record { in_time = again_under behind; behind = omega arith; minted = refl };
+    last = under_so (again_under behind) (omega arith) refl;
     no_other = (tt, (tt, (tt, tt)));
     each = tt;
     order = (All-nil (λ n. 4 < n), tt);
@@ -105,13 +105,9 @@ steady_nonce = record {
     ask = request_coming;
     came = refl;
     in_time = request_in_time;
-    last = record {
-      in_time = came_so (noticed ++ shown ∷ []) 30000000 (a_nonce 5 0 false) (renews ∷ Granted walk_rights (renewed_cap ∷ []) ∷ last_listed ∷ []) refl refl (omega arith) (omega arith);
-      behind = omega arith;
-      minted = tt;
-    };
+    last = under_so (came_so (noticed ++ shown ∷ []) 30000000 (a_nonce 5 0 false) (renews ∷ Granted walk_rights (renewed_cap ∷ []) ∷ last_listed ∷ []) refl refl (omega arith) (omega arith)) (omega arith) tt;
     no_other = (tt, (tt, (tt, (tt, tt))));
-    each = (record { in_time = again_under []; behind = omega arith; minted = refl }, tt);
+    each = (under_so (again_under []) (omega arith) refl, tt);
     order = (All-from_recursion (λ n. 4 < n) (5 ∷ []) (omega arith, tt), (All-nil (λ n. 5 < n), tt));
     known = λ e. record { paid = (λ e. refl, tt); last = omega arith };
     room = λ e. absurd (cc);
@@ -137,11 +133,7 @@ steady_renewed = record {
     ask = record { time = 6001010400; packet = renewal; charge = Some (grant_of 0) };
     came = refl;
     in_time = came_so (asked ∷ Granted walk_rights (first_cap ∷ []) ∷ noticed ++ shown ∷ named ∷ []) 6000000000 renewal (Granted walk_rights (renewed_cap ∷ []) ∷ last_listed ∷ []) refl refl (omega arith) (omega arith);
-    last = record {
-      in_time = came_so [] 6010000000 (renewed_list 0 0) [] refl refl (omega arith) (omega arith);
-      behind = omega arith;
-      minted = refl;
-    };
+    last = under_so (came_so [] 6010000000 (renewed_list 0 0) [] refl refl (omega arith) (omega arith)) (omega arith) refl;
     no_other = tt;
     each = tt;
     order = (All-nil (λ n. 7 < n), tt);

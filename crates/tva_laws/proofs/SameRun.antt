@@ -1,5 +1,5 @@
 -- The logs of the walk over a restart with the same master are a run.
-use Rattle.tva_laws.proofs.Common.{◌≡◌, ℕ, zero, suc, true, false, List, [], ◌∷◌, Some, refl, subst, arith, All-from_recursion, same_Some, in_force, credit_of, PacketData, layout, two_bytes, six_bytes, eight_bytes, number_bytes, list_verdict, nonce_verdict, is_granted, under_grant, decision, link_to, answer_to_shown, answer_to_nonce, judged_shim, handle, intended, after_intending, receipt_of, after_receipt, IsRow, AreTraceRows, from_source, Input, FromTrace, Arrival, Site, Arrived, Entry, input_source, content, arrived, GoesOn, due, start_after, at_time, log_at, reaches, site_at, HasLog, IsRunTo, segment_due, range_of, after_upper, answer_to, walk_router, restart_config, sends, a_request, a_list, a_nonce, b_grant, b_notice, first_cap, first_request, first_grant, charged_to, same_rows, same_logs, same_log_a, same_log_b, same_log_router, same_until, again, renewal, renewed, renewed_cap, renewed_grant, renewed_list, before_again, before_renewal, before_list}
+use Rattle.tva_laws.proofs.Common.{◌≡◌, ℕ, suc, true, false, List, [], ◌∷◌, Some, refl, arith, same_Some, in_force, credit_of, PacketData, layout, two_bytes, six_bytes, eight_bytes, number_bytes, list_verdict, nonce_verdict, is_granted, under_grant, decision, link_to, answer_to_shown, answer_to_nonce, judged_shim, handle, intended, after_intending, receipt_of, after_receipt, AreTraceRows, from_source, Input, FromTrace, Arrival, Site, Arrived, Entry, input_source, content, arrived, GoesOn, due, start_after, at_time, log_at, reaches, site_at, HasLog, IsRunTo, segment_due, range_of, after_upper, answer_to, walk_router, restart_config, sends, a_request, a_list, a_nonce, b_grant, b_notice, first_cap, first_request, first_grant, charged_to, same_rows, same_logs, same_log_a, same_log_b, same_log_router, same_until, again, renewal, renewed, renewed_cap, renewed_grant, renewed_list, before_again, before_renewal, before_list, nat_tests}
 use Rattle.tva_laws.proofs.WorkedRuns.{none_from, has_by, by_number, triple, pair}
 use Rattle.tva_laws.proofs.Walkable.{none_begins}
 use Rattle.tva_laws.proofs.Networks.{sent}
@@ -8,19 +8,7 @@ use Rattle.tva_laws.proofs.Nodes.{router_site, a_site, b_site, lasts, first_pass
 -- ## rows
 
 pub traced : AreTraceRows (restart_config walk_router.master) same_rows
-traced = record {
-  few = omega arith;
-  each = All-from_recursion (IsRow (restart_config walk_router.master)) same_rows (
-      pair (sent walk_router.master 0 77 (omega arith) (omega arith)) (pair
-      (sent walk_router.master 5000000 1000 (omega arith) (omega arith)) (pair
-      (sent walk_router.master 10000000 1000 (omega arith) (omega arith)) (pair
-      (sent walk_router.master 20000000 1000 (omega arith) (omega arith)) (pair
-      (sent walk_router.master 30000000 1000 (omega arith) (omega arith)) (pair
-      (sent walk_router.master 6000000000 1000 (omega arith) (omega arith)) (pair
-      (sent walk_router.master 6010000000 1000 (omega arith) (omega arith)) tt)))))));
-  order = (omega arith, (omega arith, (omega arith, (omega arith, (omega arith, (omega arith, (omega arith, tt)))))));
-  files = λ node. (let none = none_begins node same_rows (refl, (refl, (refl, (refl, (refl, (refl, (refl, tt))))))) in omega (arith, none));
-}
+traced = grind (arith, nat_tests, pair, sent, none_begins)
 
 -- ## inputs
 
@@ -97,19 +85,11 @@ renewed_passes = rw (lasts walk_router.master 6001010400 6011010400 (omega arith
 
 router_steps : GoesOn (router_site walk_router.master) [] router_inputs same_log_router
 unfolding layout two_bytes six_bytes eight_bytes number_bytes credit_of nonce_verdict link_to answer_to_nonce judged_shim handle arrived decision start_after in_force
-router_steps =
-    triple refl refl (pair refl (triple refl refl (pair refl (triple refl
-    (first_passes walk_router.master) (pair refl (triple refl refl (pair refl (triple refl refl (pair
-    refl (triple refl again_passes (pair refl (triple refl refl (pair refl (triple refl renewal_passes
-    (pair refl (triple refl refl (pair refl (triple refl renewed_passes (pair refl
-    tt)))))))))))))))))))
+router_steps = grind (arith, nat_tests, triple, pair, first_passes, again_passes, renewal_passes, renewed_passes)
 
 a_steps : GoesOn a_site [] a_inputs same_log_a
 unfolding layout two_bytes six_bytes eight_bytes number_bytes credit_of is_granted under_grant decision link_to intended after_intending receipt_of after_receipt segment_due range_of after_upper answer_to start_after
-a_steps =
-    triple refl refl (pair refl (triple refl refl (triple refl refl (pair refl (triple refl refl
-    (pair refl (triple refl refl (triple refl refl (pair refl (triple refl refl (pair refl (triple
-    refl refl (pair refl (triple refl refl (triple refl refl (pair refl tt))))))))))))))))
+a_steps = grind (arith, nat_tests, triple, pair)
 
 b_steps : GoesOn b_site [] b_inputs same_log_b
 unfolding layout two_bytes six_bytes eight_bytes number_bytes credit_of is_granted under_grant decision link_to intended after_intending receipt_of after_receipt segment_due range_of after_upper answer_to start_after
@@ -136,10 +116,7 @@ b_has = has_by (restart_config walk_router.master) same_rows same_logs same_unti
     (record { turns = refl; gives = b_gives; order = refl; early = refl; steps = b_steps; calm = (refl, tt) })
 
 has : (node : ℕ) (site : Site) → site_at (restart_config walk_router.master) node ≡ Some site → Has site (log_at same_logs node)
-has zero site e = subst (λ (s : Site). Has s same_log_router) (same_Some (router_site walk_router.master) site e) router_has
-has (suc zero) site e = subst (λ (s : Site). Has s same_log_a) (same_Some a_site site e) a_has
-has (suc (suc zero)) site e = subst (λ (s : Site). Has s same_log_b) (same_Some b_site site e) b_has
-has (suc (suc (suc n))) site e = absurd (cc)
+has node site e = grind (arith, nat_tests, same_Some, router_site, router_has, a_site, a_has, b_site, b_has)
 
 pub is_run : IsRunTo (restart_config walk_router.master) same_rows same_until same_logs
 is_run = record { within = omega arith; count = refl; each = has }

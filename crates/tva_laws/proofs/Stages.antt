@@ -1,5 +1,5 @@
 -- What is known of the miles so far.
-use Rattle.tva_laws.proofs.Common.{◌≡◌, ◌≤◌, ◌<◌, ◌⊎◌, inl, inr, ℕ, ◌+◌, false, List, [], ◌∷◌, ◌++◌, Option, Some, None, refl, ap, sym, subst, ◌∙◌, arith, append_assoc, append-nil, sum_by, AllByRecursion, option_or, option_map, unwrap_or, sum_by-cons, sum_by-append, Rights, router_second, AreSomeRights, Charge, Peer, Contact, Taking, taking_in, last_taking, last_ask, Use, uses_in, uses, first_nonce, time_of, last_taking-push, taking_more, uses-push, Mile, contact_in, contacts, paid_in, charges_in, ask_came_in, last_came, since_got, Way, ComesIn, grant_at, AreAuthorised, each-append}
+use Rattle.tva_laws.proofs.Common.{◌≡◌, ◌≤◌, ◌<◌, ◌⊎◌, ℕ, ◌+◌, false, List, [], ◌∷◌, ◌++◌, Some, None, ap, sym, subst, ◌∙◌, arith, append_assoc, append-nil, sum_by, AllByRecursion, unwrap_or, sum_by-cons, sum_by-append, Rights, router_second, AreSomeRights, Charge, Peer, Contact, taking_in, last_taking, last_ask, Use, uses_in, uses, first_nonce, time_of, last_taking-push, taking_more, uses-push, Mile, contact_in, contacts, paid_in, charges_in, ask_came_in, last_came, since_got, Way, ComesIn, grant_at, AreAuthorised, each-append, nat_tests}
 use Rattle.tva_sender.specs.Book.{Keeps}
 use Rattle.tva_laws.proofs.Charges.{each-weaker}
 use Rattle.tva_laws.proofs.Pushes.{contacts-push, charges-push, came-same, authorised-front}
@@ -50,10 +50,7 @@ Stage w ms = IsFresh ms ⊎ Holds w ms
 
 -- every charge so far is of a second up to that of the last grant
 pub none-after : (w : Way) (ms : List Mile) (k : Holds w ms) → AllByRecursion (NotAfter w k.came) (charges_in ms)
-none-after w ms k =
-    subst (AllByRecursion (NotAfter w k.came)) (sym k.charges)
-    (each-append (NotAfter w k.came) (charges_in k.earlier) (charges_in k.own)
-    (each-weaker (λ (c : Charge). c.grant.second < router_second w.offset k.came) (NotAfter w k.came) (charges_in k.earlier) (λ c l. omega (arith, l)) k.old) k.some)
+none-after w ms k = search (arith, nat_tests, each-append, each-weaker)
 
 -- a mile that is no grant
 pub stay : (w : Way) (ms : List Mile) (k : Holds w ms) (m : Mile) (peer : Peer) → ask_came_in m ≡ None → ((b a : List Contact) → taking_in b (contact_in m) a ≡ None)
@@ -62,40 +59,11 @@ pub stay : (w : Way) (ms : List Mile) (k : Holds w ms) (m : Mile) (peer : Peer) 
     → AllByRecursion (NotAfter w k.came) (paid_in m)
     → (AreOwn w k.rights k.came k.earlier k.own → AreOwn w k.rights k.came k.earlier (k.own ++ m ∷ []))
     → Holds w (ms ++ m ∷ [])
-stay w ms k m peer no_came no_taking since_push keeps since again some all =
-    let own' = k.own ++ m ∷ [] in
-    let t : Taking = record { before = contacts k.earlier; rights = k.rights; caps = k.caps; after = contacts k.own } in
-    let taken : last_taking [] (contacts ms ++ contact_in m ∷ []) ≡ Some (taking_more (contact_in m) t) =
-    last_taking-push [] (contacts ms) (contact_in m) ∙ ap (λ (o : Option Taking). option_or o (option_map (taking_more (contact_in m)) (last_taking [] (contacts ms)))) (no_taking (contacts ms) [])
-    ∙ ap (λ (o : Option Taking). option_map (taking_more (contact_in m)) o) k.taking in
-    record {
-      earlier = k.earlier;
-      own = own';
-      rights = k.rights;
-      caps = k.caps;
-      came = k.came;
-      asked = k.asked;
-      peer = peer;
-      came_is = came-same ms m no_came ∙ k.came_is;
-      since_is = since_push ∙ ap (λ (xs : List Mile). xs ++ m ∷ []) k.since_is;
-      taking = ap (last_taking []) (contacts-push ms m) ∙ taken ∙ ap (λ (cs : List Contact). Some (record { before = contacts k.earlier; rights = k.rights; caps = k.caps; after = cs })) (sym (contacts-push k.own m));
-      asked_is = k.asked_is;
-      comes = k.comes;
-      carried = k.carried;
-      charges = charges-push ms m ∙ ap (λ (cs : List Charge). cs ++ paid_in m) k.charges ∙ append_assoc (charges_in k.earlier) (charges_in k.own) (paid_in m)
-          ∙ ap (λ (cs : List Charge). charges_in k.earlier ++ cs) (sym (charges-push k.own m));
-      old = k.old;
-      some = subst (AllByRecursion (NotAfter w k.came)) (sym (charges-push k.own m)) (each-append (NotAfter w k.came) (charges_in k.own) (paid_in m) k.some some);
-      keeps = subst (Keeps peer) (sym (contacts-push ms m)) keeps;
-      since = since;
-      again = again;
-      all = all k.all;
-    }
+stay w ms k m peer no_came no_taking since_push keeps since again some all = grind (arith, nat_tests, taking_more, last_taking-push, came-same, contacts-push, charges-push, append_assoc, each-append)
 
 -- what is full with a mile behind it is full without it
 full-front : (earlier own : List Mile) (m : Mile) → IsFull earlier (own ++ m ∷ []) → IsFull earlier own
-full-front earlier own m (inl none) = inl none
-full-front earlier own m (inr all) = inr (authorised-front own m all)
+full-front earlier own m h3 = grind (arith, nat_tests, authorised-front)
 
 -- a mile that shows nothing and is not charged leaves the charges as they are
 pub idle : (w : Way) (rights : Rights) (came : ℕ) (earlier own : List Mile) (m : Mile) → uses_in (contact_in m) ≡ [] → paid_in m ≡ [] → AreOwn w rights came earlier own → AreOwn w rights came earlier (own ++ m ∷ [])
@@ -110,17 +78,11 @@ idle w rights came earlier own m no_use no_charge k =
 
 -- the first nonce after one more use that shows it
 first-more : (us : List Use) (u : Use) (offered : ℕ) → u.nonce ≡ unwrap_or (first_nonce us) offered → Some u.nonce ≡ first_nonce (us ++ u ∷ [])
-first-more [] u offered e = refl
-first-more (v ∷ vs) u offered e = ap Some e
-
-first-stays : (us : List Use) (u : Use) (n : ℕ) → Some n ≡ first_nonce us → Some n ≡ first_nonce (us ++ u ∷ [])
-first-stays [] u n e = absurd (cc)
-first-stays (v ∷ vs) u n e = e
+first-more us u offered e = grind (arith, nat_tests)
 
 -- charges with the first nonce have that of one more use
 nonces-stay : (us : List Use) (u : Use) (cs : List Charge) → AllByRecursion (λ c. Some c.nonce ≡ first_nonce us) cs → AllByRecursion (λ c. Some c.nonce ≡ first_nonce (us ++ u ∷ [])) cs
-nonces-stay us u cs k =
-    each-weaker (λ (c : Charge). Some c.nonce ≡ first_nonce us) (λ (c : Charge). Some c.nonce ≡ first_nonce (us ++ u ∷ [])) cs (λ d e. first-stays us u d.nonce e) k
+nonces-stay us u cs k = grind (arith, nat_tests, each-weaker)
 
 -- a mile that shows the grant and is not charged
 pub unpaid : (w : Way) (rights : Rights) (came : ℕ) (earlier own : List Mile) (m : Mile) (u : Use) → uses_in (contact_in m) ≡ u ∷ [] → paid_in m ≡ []
@@ -153,8 +115,7 @@ used w rights came earlier own m u c offered one_use one_charge grant length non
     let other : sum_by (λ (x : Charge). x.length) (c ∷ []) ≡ c.length + sum_by (λ (x : Charge). x.length) [] = sum_by-cons (λ (x : Charge). x.length) c [] in
     let few : sum_by (λ (x : Charge). x.length) (charges_in own ++ c ∷ []) ≤ sum_by (λ (x : Use). x.length) (uses (contacts own) ++ u ∷ []) = omega (arith, more, paid, one, other, length, k.few) in
     record {
-      grants = λ full. (let before = k.grants (full-front earlier own m full) in subst (AllByRecursion (λ (d : Charge). d.grant ≡ grant_at w rights came)) (sym cs)
-          (each-append (λ (d : Charge). d.grant ≡ grant_at w rights came) (charges_in own) (c ∷ []) before (grant (full-front earlier own m full) before, tt)));
+      grants = grind (arith, nat_tests, full-front, each-append);
       few = rw (cs, us) few;
       nonces = rw (cs, us) (each-append (λ (d : Charge). Some d.nonce ≡ first_nonce (uses (contacts own) ++ u ∷ [])) (charges_in own) (c ∷ [])
           (nonces-stay (uses (contacts own)) u (charges_in own) k.nonces)

@@ -1,12 +1,12 @@
 -- In each run what comes on a steady path and shows a grant is charged and goes on as regular.
-use Rattle.tva_laws.proofs.Common.{◌≡◌, ◌≤◌, ℕ, true, leb, List, [], ◌∷◌, ◌++◌, Option, Some, None, refl, ap, ap₂, sym, subst, ◌∙◌, append_assoc, IsSomeAnd, filter, option_map, IfSome, AllByRecursion, le-leb, filter_map-append, same_Some, Grant, Rights, Time, in_force, router_second, packet_length, Charge, of_flow, last_charge, holder, asked_at, force_clock, Config, IsConfig, Row, each-weaker, input_time, Logs, log_at, IsRunTo, at_place, each_front, contacts, charges_in, last_came, since_got, since_notified, ComesIn, is_since, IsSteady, Deal, Prepared, Granted, Coming, shows_nonce, since_noticed, IsNoGrant, ShowsMinted, ComesUnder, charged_since, WasCharged, IsSteadyPath, AreHonestRegular, ask_came, grant_came, since_granted}
+use Rattle.tva_laws.proofs.Common.{◌≡◌, ◌≤◌, ℕ, true, List, [], ◌∷◌, ◌++◌, Option, Some, refl, ap, sym, subst, ◌∙◌, append_assoc, IsSomeAnd, option_map, IfSome, AllByRecursion, filter_map-append, same_Some, Grant, Rights, Time, router_second, packet_length, asked_at, force_clock, Config, IsConfig, Row, each-weaker, input_time, Logs, log_at, IsRunTo, at_place, each_front, contacts, last_came, ComesIn, IsSteady, Deal, Prepared, Granted, Coming, shows_nonce, since_noticed, IsNoGrant, ComesUnder, charged_since, WasCharged, IsSteadyPath, AreHonestRegular, ask_came, grant_came, since_granted, arith, nat_tests}
 use Rattle.tva_base.specs.declared.packet.Class.TheVariants as class
 use Rattle.tva_laws.specs.SteadyMiles as kit
 use Rattle.tva_laws.proofs.Given.{AreGiven}
 use Rattle.tva_laws.proofs.RisingLists.{Rises, rises_front}
 use Rattle.tva_laws.proofs.Dealt.{shape_in}
 use Rattle.tva_laws.proofs.Hosts.{deal_key, IsTrue}
-use Rattle.tva_laws.proofs.Matching.{In, keys, AreIn, Matches, in_place, matched}
+use Rattle.tva_laws.proofs.Matching.{keys, AreIn, Matches, in_place, matched}
 use Rattle.tva_laws.proofs.Asks.{came-granted, came-under, rights-under}
 use Rattle.tva_laws.proofs.Comings.{paying, since_paid}
 use Rattle.tva_laws.proofs.Authorised.{last-passes, honest}
@@ -17,10 +17,6 @@ use Rattle.tva_laws.proofs.ShimsKept.{AreShims, at_router, shows_as_made, of_non
 use Rattle.tva_laws.proofs.Passage.{Passage, passage, own, seen, last, now, ruling, boot, held, way, InTime, Steadily, told_all, rises, planned, comes_for}
 use Rattle.tva_laws.proofs.Charged.{IsTakenByLast, taken_regular, pays_for, in_order, shims_here, played_here, boot_flow}
 use Rattle.tva_laws.proofs.Matching.{rises_behind}
-
-passes_if : (f : Charge → ℕ) (n : ℕ) (o : Option Charge) → IfSome o (λ c. n ≤ f c) → IfSome o (λ c. leb n (f c) ≡ true)
-passes_if f n None k = tt
-passes_if f n (Some c) k = le-leb n (f c) k
 
 module _ (m : Passage) where
   open m use {config, rows, until, logs, valid, given, run, sender, node, from, to, host, router, is_from, from_plan, is_to, to_plan}
@@ -44,9 +40,7 @@ module _ (m : Passage) where
     earlier = steady.first ++ granted ∷ under
 
     place_here : (own m) ≡ earlier ++ tail
-    place_here =
-        steady.place ∙ (ap (λ (ds : List Deal). steady.first ++ granted ∷ ds) steady.last.in_time.place
-        ∙ sym (append_assoc steady.first (granted ∷ under) tail))
+    place_here = grind (arith, nat_tests, last, append_assoc)
 
     abbrev at : InTime m (last m)
     at = record {
@@ -76,17 +70,11 @@ module _ (m : Passage) where
     ask_is_known = ap (option_map (λ (x : Coming). x.time)) steady.came
 
     came_behind : (ds : List Deal) → AllByRecursion IsNoGrant ds → grant_came (seen m) [] (begin ++ ds) ≡ Some asked_time
-    came_behind ds k =
-        came-under (seen m) begin ds k
-        ∙ came-granted (seen m) [] steady.first steady.rights steady.caps asked_time ask_is_known
+    came_behind ds k = search (arith, nat_tests, came-under, seen, came-granted, ask_is_known)
 
     place_under : (before : List Deal) (d : Deal) (after : List Deal) → under ≡ before ++ d ∷ after
         → (own m) ≡ (begin ++ before) ++ d ∷ (after ++ tail)
-    place_under before d after e =
-        place_here ∙ (ap (λ (ds : List Deal). ds ++ tail) (split ∙ ap (λ (ds : List Deal). begin ++ ds) e)
-        ∙ (append_assoc begin (before ++ d ∷ after) tail
-        ∙ (ap (λ (ds : List Deal). begin ++ ds) (append_assoc before (d ∷ after) tail)
-        ∙ sym (append_assoc begin before (d ∷ (after ++ tail))))))
+    place_under before d after e = grind (arith, nat_tests, place_here, split, append_assoc)
 
     -- what came so under the grant came steadily
     steadily : (y : Coming) → ComesUnder host router delay under asked_time y → (Steadily m) y
@@ -96,40 +84,22 @@ module _ (m : Passage) where
         came_behind it.before (each_front IsNoGrant it.before (Prepared it.sent it.packet ∷ it.after)
         (subst (AllByRecursion IsNoGrant) it.place steady.no_other)) in
         record {
-          in_time = record {
-            before = begin ++ it.before;
-            sent = it.sent;
-            packet = it.packet;
-            after = it.after ++ tail;
-            place = place_under it.before (Prepared it.sent it.packet) it.after it.place;
-            same = it.same;
-            from = it.from;
-            until = it.until;
-          };
+          in_time = search (place_under it.before (Prepared it.sent it.packet) it.after it.place);
           behind = subst (λ (o : Option ℕ). IfSome o (λ came. came ≤ y.time)) (sym came_is) u.behind;
-          minted = subst (λ (o : Option ℕ). IfSome o (λ came. ShowsMinted (in_force router y.time) y.packet y.packet.carried came))
-              (sym came_is) u.minted;
+          minted = grind (arith, nat_tests);
         }
 
     each : AllByRecursion (Steadily m) met
     each = each-weaker (ComesUnder host router delay under asked_time) (Steadily m) steadily met steady.each
 
     fine : AllByRecursion (IsTrue (log_at logs sender)) (steady.first ++ granted ∷ under)
-    fine =
-        each_front (IsTrue (log_at logs sender)) earlier tail
-        (subst (AllByRecursion (IsTrue (log_at logs sender))) place_here (told_all m).each)
+    fine = grind (arith, nat_tests, each_front, place_here, told_all, each)
 
     rises_under : Rises (keys under)
-    rises_under =
-        rises_front (keys under) (keys tail) (subst Rises (filter_map-append deal_key under tail)
-        (rises_behind begin (under ++ tail) (subst (λ (ds : List Deal). Rises (keys ds))
-        (place_here ∙ (ap (λ (ds : List Deal). ds ++ tail) split ∙ append_assoc begin under tail)) (rises m))))
+    rises_under = grind (arith, nat_tests, rises_front, keys, filter_map-append, deal_key, rises_behind, place_here, split, append_assoc, rises)
 
     ins : AreIn under (met)
-    ins =
-        each-weaker (ComesUnder host router delay under asked_time) (λ (y : Coming). In under y.packet.id)
-        (λ y u. subst (λ (ds : List Deal). In ds y.packet.id) (sym u.in_time.place)
-        (in_place u.in_time.before u.in_time.sent u.in_time.packet u.in_time.after y.packet.id u.in_time.same)) met steady.each
+    ins = grind (arith, nat_tests, each-weaker, in_place, each)
 
     match : Matches under (met)
     match = matched under (met) rises_under (in_order m second each steady.order).0 ins
@@ -160,27 +130,15 @@ module _ (m : Passage) where
     shims : AreShims at.packet.carried packet.carried
     shims = shims_here m at
 
-    charged_so : filter (λ (c : Charge). leb second c.grant.second) (of_flow packet.flow (held m)) ≡ charges_in miles.miles
-    charged_so =
-        ap (filter (λ (c : Charge). leb second c.grant.second)) (boot_flow m)
-        ∙ (since_paid second (boot m) ∙ sym miles.charges_are)
-
     since_is : since_granted [] earlier ≡ under
-    since_is =
-        ap (since_granted []) split ∙ (since_under begin under steady.no_other
-        ∙ ap (λ (ds : List Deal). ds ++ under) (since_grant [] steady.first steady.rights steady.caps))
+    since_is = grind (arith, nat_tests, split, since_under, since_grant)
 
     known : shows_nonce packet.carried ≡ true → IfSome (last_came miles.miles) (λ came. kit.IsKnown (way m) (held m) miles.miles came)
     known e =
         let k = steady.known e in
         let since : AllByRecursion (WasCharged met) (since_noticed (since_granted [] earlier)) =
         subst (λ (ds : List Deal). AllByRecursion (WasCharged met) (since_noticed ds)) (sym since_is) k.paid in
-        let is_known : kit.IsKnown (way m) (held m) miles.miles asked_time = record {
-          authorised = authorised met (since_noticed (since_granted [] earlier)) (since_notified (since_got [] miles.miles))
-              (noticed_beside met (since_granted [] earlier) (since_got [] miles.miles) miles.beside) since;
-          held = passes_if (λ (c : Charge). c.grant.second) second (holder (held m) packet.flow) k.last;
-        } in
-        subst (λ (o : Option ℕ). IfSome o (λ came. kit.IsKnown (way m) (held m) miles.miles came)) (sym came_last) is_known
+        grind (arith, nat_tests, way, held, miles, authorised, noticed_beside, last, came_last)
 
     is_steady : IsSteady (way m) (held m) miles.miles at.sent (shape_in at.packet.carried) (packet_length packet)
         (input_time input)
@@ -188,46 +146,27 @@ module _ (m : Passage) where
       rules = (planned m).retry.0;
       played = played_here m at miles.miles miles.contacts_are;
       miles = miles.are;
-      charges = subst (λ (o : Option ℕ). IfSome o (λ came. filter (is_since (way m) came) (of_flow packet.flow (held m)) ≡ charges_in miles.miles))
-          (sym came_last) charged_so;
+      charges = grind (arith, nat_tests, way, held, miles, came_last, boot_flow, since_paid, boot);
       comes = record { from = at.from; until = at.until };
       behind = subst (λ (o : Option ℕ). IfSome o (λ u. u ≤ input_time input)) (sym came_last) steady.last.behind;
-      nonce = of_nonce at.packet.carried packet.carried shims
-          (IfSome (last_came miles.miles) (λ came. kit.IsKnown (way m) (held m) miles.miles came)) known;
+      nonce = grind (arith, nat_tests, of_nonce, shims, miles, way, held, known);
       room = steady.room;
     }
 
     shows_it : ShowsGrant (way m) miles.miles (shape_in at.packet.carried) packet.carried
-    shows_it =
-        let a =
-        at_router (way m) (ruling m) packet miles.miles (held m) (now m) refl refl (sym (force_clock router (now m))) (λ (z : Grant). leb second z.second)
-        (λ d l k. ap last_charge (sym charged_so) ∙ last-passes (λ (c : Charge). leb second c.grant.second) (of_flow packet.flow (held m)) d l k) in
-        shows_as_made (way m) (ruling m) at.packet packet miles.miles (held m) (now m) a shims
-        (subst (λ (o : Option ℕ). IfSome o (λ u. ShowsMinted (ruling m) packet packet.carried u)) (sym came_last) steady.last.minted)
+    shows_it = grind (arith, nat_tests, at_router, way, ruling, miles, held, now, force_clock, last-passes, shows_as_made, shims, came_last, last)
 
     regular_here : IsTakenByLast router packet.flow (seen m) earlier fate
     regular_here =
         taken_regular m earlier miles.miles miles.contacts_are miles.came (shape_in at.packet.carried)
         (honest (way m) (held m) miles.miles at.sent (shape_in at.packet.carried) (packet_length packet) (now m) is_steady) shows_it
 
-    -- the last grant among them is that of the path
-    rights_here : regular_here.rights ≡ steady.rights
-    rights_here =
-        same_Some regular_here.rights steady.rights (sym regular_here.granted
-        ∙ rights-under steady.first steady.rights steady.caps under steady.no_other)
-
-    came_here : regular_here.came ≡ asked_time
-    came_here =
-        same_Some regular_here.came asked_time (sym regular_here.asked
-        ∙ (ap (grant_came (seen m) []) split ∙ came_behind under steady.no_other))
-
     abbrev grant_of : Rights → ℕ → Grant
     grant_of rights came =
         record { flow = packet.flow; rights = rights; second = router_second router.clock_offset came }
 
     pub regular : (fate.charge ≡ Some (grant_of steady.rights asked_time)) × (fate.class ≡ class.Regular)
-    regular =
-        (regular_here.charge ∙ ap₂ (λ (r : Rights) (n : ℕ). Some (grant_of r n)) rights_here came_here, regular_here.class)
+    regular = grind (arith, nat_tests, regular_here, same_Some, rights-under, seen, split, came_behind)
 
 -- so it is in each run
 pub honest_regular : (config : Config) (rows : List Row) (until : ℕ) (logs : Logs) → IsConfig config → AreGiven config rows until logs

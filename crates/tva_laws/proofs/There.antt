@@ -1,7 +1,6 @@
 -- Each time has a run up to it: from the run up to a time each node's log goes on to the next.
-use Rattle.tva_laws.proofs.Common.{◌≡◌, ℕ, zero, suc, ◌+◌, ◌*◌, ◌<◌, ◌≤◌, Bool, true, false, cond, List, [], ◌∷◌, length, map, All, Option, Some, None, refl, sym, subst, ap, ◌∙◌, arith, inl, inr, ◌==◌, nat_lt, slice_get, option_map, option_map_or, IfSome, AllByRecursion, cons_option, cases_Bool, eqb-true, length-map, recursion_from_All, same_Some, slice_get_cases, Event, Time, LinkPlan, PacketData, packet_length, Config, NodePlan, is_host, is_host_plan, IsConfig, Row, RowWhat, Send, Inject, File, Tick, IsRow, IsRowWhat, IsJoin, NeverFalls, IsInOrder, cut-zero, each-filter, each-weaker, filter-true, filter-false, in_order-filter, join_unique, times_from, each_from_sources, Input, FromTrace, Arrival, Site, site_of, Entry, Took, Started, input_time, input_source, entry_time, entry_rank, at_time, event_of, events, due, IsNodeLog-same, Logs, log_at, links_out, site_at, rows_at, arrival_of, arrivals, arrivals_at, reaches, HasLog, IsRunTo, event_time, event_node, events_at, AreEvents, are_delayed, source_due, site_is, site_number}
+use Rattle.tva_laws.proofs.Common.{◌≡◌, ℕ, zero, suc, ◌+◌, ◌<◌, ◌≤◌, Bool, true, false, List, [], ◌∷◌, length, map, All, Option, Some, None, refl, sym, subst, ap, ◌∙◌, arith, ◌==◌, nat_lt, slice_get, option_map, option_map_or, AllByRecursion, cases_Bool, length-map, recursion_from_All, same_Some, slice_get_cases, Event, Time, LinkPlan, PacketData, Config, NodePlan, is_host, IsConfig, Row, RowWhat, Send, Inject, File, Tick, IsRow, IsJoin, NeverFalls, IsInOrder, cut-zero, each-filter, each-weaker, filter-true, filter-false, in_order-filter, join_unique, times_from, each_from_sources, Input, FromTrace, Arrival, Site, site_of, Entry, input_time, input_source, entry_time, entry_rank, event_of, events, due, Logs, log_at, links_out, site_at, rows_at, arrivals, arrivals_at, reaches, HasLog, IsRunTo, event_time, event_node, events_at, AreEvents, are_delayed, source_due, site_is, site_number, nat_tests}
 use Rattle.std.proofs.Common.{filter}
-use Rattle.tva_plan.specs.declared.config.NodePlan.TheVariants as plans
 use Rattle.tva_rows.specs.Valid.{NeverFall}
 use Rattle.tva_run.specs.Windows.{least_delay, window_length}
 use Rattle.tva_run.proofs.Going.{run_goes_on}
@@ -13,16 +12,12 @@ use Rattle.tva_laws.proofs.Nexts.{IsInjected, IsTakable, next_log}
 
 falls_filter : {X : Type 0} (time : X → ℕ) (p : X → Bool) (xs : List X) → NeverFalls time xs → NeverFalls time (filter p xs)
 falls_filter time p [] h = tt
-falls_filter time p (x ∷ xs) h = elim (cases_Bool (p x)) [
-  | inl a ↦ rw (filter-true p x xs a) (each-filter (λ y. time x ≤ time y) p xs h.0, falls_filter time p xs h.1)
-  | inr a ↦ rw (filter-false p x xs a) (falls_filter time p xs h.1)
-]
+falls_filter time p (x ∷ xs) h = grind (arith, nat_tests, cases_Bool, filter-true, each-filter, filter-false, falls_filter time p xs h.1)
 
 found_at : {A B : Type 0} (P : ℕ → B → Type 0) (x : A) (xs : List A) (y : B) (ys : List B) → P 0 y
     → ((i : ℕ) (a : A) → slice_get xs i ≡ Some a → (z : B) × (slice_get ys i ≡ Some z) × P (suc i) z)
     → (i : ℕ) (a : A) → slice_get (x ∷ xs) i ≡ Some a → (z : B) × (slice_get (y ∷ ys) i ≡ Some z) × P i z
-found_at P x xs y ys first rest zero a e = (y, refl, first)
-found_at P x xs y ys first rest (suc i) a e = rest i a e
+found_at P x xs y ys first rest i a e = grind (arith, nat_tests)
 
 -- where there is something for each element of a list, there is a list of it
 choose : {A B : Type 0} (P : ℕ → B → Type 0) (xs : List A) → ((i : ℕ) (x : A) → slice_get xs i ≡ Some x → (y : B) × P i y)
@@ -35,31 +30,16 @@ choose P (x ∷ xs) h =
 
 -- ## what reaches a node
 
-arrival_each : (P : Input → Type 0) (number : ℕ) → ((time : Time) (packet : PacketData) → P (Arrival time number packet))
-    → (link : LinkPlan) (e : Entry) → IfSome (arrival_of number link e) P
-arrival_each P number h link (Took input content) = tt
-arrival_each P number h link (Started time on class packet) =
-    let there : Time = at_time (time + packet_length packet * link.limits.ns_per_byte + link.delay) in
-    elim (on == number) as (λ b. IfSome (cond b (Some (Arrival there number packet)) None) P) [ true ↦ h there packet | false ↦ tt ]
-
-each_option : (P : Input → Type 0) (o : Option Input) (xs : List Input) → IfSome o P → AllByRecursion P xs
-    → AllByRecursion P (cons_option o xs)
-each_option P None xs s a = a
-each_option P (Some i) xs s a = (s, a)
-
 arrivals_each : (P : Input → Type 0) (number : ℕ) → ((time : Time) (packet : PacketData) → P (Arrival time number packet))
     → (link : LinkPlan) (log : List Entry) → AllByRecursion P (arrivals number link log)
 arrivals_each P number h link [] = tt
-arrivals_each P number h link (e ∷ es) =
-    each_option P (arrival_of number link e) (arrivals number link es) (arrival_each P number h link e) (arrivals_each P number h link es)
+arrivals_each P number h link (e ∷ es) = grind (arith, nat_tests, arrivals_each P number h link es)
 
 arrived_each : (P : Input → Type 0) (number node : ℕ) → ((time : Time) (packet : PacketData) → P (Arrival time number packet))
     → (logs : Logs) (o : Option LinkPlan)
     → AllByRecursion P (option_map_or (arrivals_at logs node number) o [])
 arrived_each P number node h logs None = tt
-arrived_each P number node h logs (Some link) =
-    let here : List Input = arrivals number link (log_at logs link.from) in
-    elim (link.to == node) as (λ b. AllByRecursion P (cond b here [])) [ true ↦ arrivals_each P number h link (log_at logs link.from) | false ↦ tt ]
+arrived_each P number node h logs (Some link) = grind (arith, nat_tests, arrivals_each P number h link (log_at logs link.from))
 
 rows_source : (rows : List Row) → AllByRecursion (λ i. input_source i ≡ 0) (map FromTrace rows)
 rows_source [] = tt
@@ -69,17 +49,12 @@ rows_source (row ∷ rows) = (refl, rows_source rows)
 own_source : (config : Config) (rows : List Row) (logs : Logs) (node source : ℕ)
     → AllByRecursion (λ i. input_source i ≡ source) (reaches config rows logs node source)
 own_source config rows logs node zero = rows_source (filter (λ row. row.node == node) rows)
-own_source config rows logs node (suc number) =
-    arrived_each (λ i. input_source i ≡ suc number) number node (λ time packet. refl) logs (slice_get config.links number)
+own_source config rows logs node (suc number) = search (arith, nat_tests, arrived_each)
 
 -- and past the last link nothing
 none_past : (config : Config) (rows : List Row) (logs : Logs) (node source : ℕ) → length config.links < source
     → reaches config rows logs node source ≡ []
-none_past config rows logs node zero l = absurd (omega (arith, l))
-none_past config rows logs node (suc number) l = elim (slice_get_cases config.links number).1 [
-  | inl there ↦ absurd (omega (arith, l, there.1))
-  | inr past ↦ ap (λ (o : Option LinkPlan). option_map_or (arrivals_at logs node number) o []) past.1
-]
+none_past config rows logs node source l = grind (arith, nat_tests, slice_get_cases)
 
 -- ## inputs that a node can take
 
@@ -93,50 +68,24 @@ IsPlacedWhat at_host (Tick dst) = at_host ≡ true
 abbrev pub IsPlaced : Config → Row → Type 0
 IsPlaced config row = IsPlacedWhat (is_host config.nodes row.node) row.what
 
--- so do those of the rows of a trace
-placed_what : (at_host : Bool) (w : RowWhat) → IsRowWhat at_host w → IsPlacedWhat at_host w
-placed_what at_host (Send dst payload) h = h.0
-placed_what at_host (Inject flow payload carried) h = tt
-placed_what at_host (File dst size segment) h = h.0
-placed_what at_host (Tick dst) h = h
-
 pub traced_placed : (config : Config) (rows : List Row) → All (IsRow config) rows → AllByRecursion (IsPlaced config) rows
-traced_placed config rows a =
-    each-weaker (IsRow config) (IsPlaced config) (λ row r. placed_what (is_host config.nodes row.node) row.what r.what) rows (recursion_from_All (IsRow config) rows a)
+traced_placed config rows a = grind (arith, nat_tests, each-weaker, recursion_from_All)
 
 injected : (what : RowWhat) → IsPlacedWhat false what → IsInjected what
-injected (Send dst payload) h = absurd (cc)
-injected (Inject flow payload carried) h = tt
-injected (File dst size segment) h = absurd (cc)
-injected (Tick dst) h = absurd (cc)
-
-what_takable : (plan : NodePlan) (row : Row) → IsPlacedWhat (is_host_plan plan) row.what → IsTakable plan (FromTrace row)
-what_takable (plans.Router p) row h = injected row.what h
-what_takable (plans.Host p) row h = tt
+injected what h = grind (arith, nat_tests)
 
 any_arrival : (plan : NodePlan) (time : Time) (link : ℕ) (packet : PacketData) → IsTakable plan (Arrival time link packet)
-any_arrival (plans.Router p) time link packet = tt
-any_arrival (plans.Host p) time link packet = tt
+any_arrival plan time link packet = grind (arith, nat_tests)
 
 module _ (config : Config) (node : ℕ) (plan : NodePlan) (here : slice_get config.nodes node ≡ Some plan) where
-  row_takable : (row : Row) → row.node ≡ node → IsPlaced config row → IsTakable plan (FromTrace row)
-  row_takable row at h =
-      let kind : is_host config.nodes row.node ≡ is_host_plan plan =
-      ap (λ n. is_host config.nodes n) at ∙ ap (λ (o : Option NodePlan). option_map_or is_host_plan o false) here in
-      what_takable plan row (subst (λ b. IsPlacedWhat b row.what) kind h)
-
   rows_takable : (rows : List Row) → AllByRecursion (IsPlaced config) rows → AllByRecursion (IsTakable plan) (rows_at rows node)
   rows_takable [] h = tt
-  rows_takable (row ∷ rows) h = elim (cases_Bool (row.node == node)) [
-    | inl a ↦ rw (filter-true (λ (r : Row). r.node == node) row rows a) (row_takable row (eqb-true row.node node a) h.0, rows_takable rows h.1)
-    | inr a ↦ rw (filter-false (λ (r : Row). r.node == node) row rows a) (rows_takable rows h.1)
-  ]
+  rows_takable (row ∷ rows) h = grind (arith, nat_tests, cases_Bool (row.node == node), rows_takable rows h.1)
 
   reaches_takable : (rows : List Row) → AllByRecursion (IsPlaced config) rows → (logs : Logs) (source : ℕ)
       → AllByRecursion (IsTakable plan) (reaches config rows logs node source)
   reaches_takable rows h logs zero = rows_takable rows h
-  reaches_takable rows h logs (suc number) =
-      arrived_each (IsTakable plan) number node (λ time packet. any_arrival plan time number packet) logs (slice_get config.links number)
+  reaches_takable rows h logs (suc number) = search (arith, nat_tests, arrived_each, any_arrival)
 
 -- ## the run
 
@@ -188,8 +137,7 @@ module _ (config : Config) (rows : List Row) (valid : IsConfig config) (order : 
       each_from_sources input_time input_source (IsTakable plan) inputs
       (λ s. subst (AllByRecursion (IsTakable plan)) (sym (join.each s))
       (each-filter (IsTakable plan) (λ i. nat_lt (input_time i) (suc t)) (reaches config rows logs node s) (reaches_takable config node plan here rows placed logs s))) in
-      let next = next_log site inputs t (log_at logs node) k.1 join.in_order can (IsNodeLog-same site own.inputs inputs t (log_at logs node) same own.is_log) in
-      (next.0, record { inputs = inputs; join = join; is_log = next.1 })
+      grind (arith, nat_tests, next_log)
 
   -- a log of the node of that number
   abbrev IsNext : ℕ → Logs → ℕ → List Entry → Type 0
@@ -198,25 +146,16 @@ module _ (config : Config) (rows : List Row) (valid : IsConfig config) (order : 
 
   some_next : (t : ℕ) (logs : Logs) → IsRunTo config rows t logs → (node : ℕ) (plan : NodePlan)
       → slice_get config.nodes node ≡ Some plan → (log : List Entry) × IsNext t logs node log
-  some_next t logs run node plan here =
-      let next = node_next t logs run node plan here in
-      (next.0, λ other there. subst (λ (p : NodePlan). HasLog config rows logs (suc t) (site_of node p (links_out node config.links)) next.0) (same_Some plan other (sym here ∙ there)) next.1)
+  some_next t logs run node plan here = grind (arith, nat_tests, node_next t logs run node plan here)
 
   at_site : (t : ℕ) (logs longer : Logs) (node : ℕ) (site : Site) (o : Option NodePlan)
       → ((plan : NodePlan) → slice_get config.nodes node ≡ Some plan → (log : List Entry) × (slice_get longer node ≡ Some log) × IsNext t logs node log)
       → slice_get config.nodes node ≡ o → option_map (λ (p : NodePlan). site_of node p (links_out node config.links)) o ≡ Some site
       → HasLog config rows logs (suc t) site (log_at longer node)
-  at_site t logs longer node site None h here there = absurd (cc)
-  at_site t logs longer node site (Some plan) h here there =
-      let found = h plan here in
-      let same : site_of node plan (links_out node config.links) ≡ site = same_Some (site_of node plan (links_out node config.links)) site there in
-      subst (λ (s : Site). HasLog config rows logs (suc t) s (log_at longer node)) same
-      (subst (λ (es : List Entry). HasLog config rows logs (suc t) (site_of node plan (links_out node config.links)) es) (sym (found_log longer node found.0 found.1)) (found.2 plan here))
+  at_site t logs longer node site o h here there = grind (arith, nat_tests, same_Some, found_log)
 
   short : (t : ℕ) → suc t ≤ t + window_length config
-  short t =
-      let one : 1 ≤ window_length config = least_positive (config.horizon.0 + 1) config.links (omega arith) (are_delayed config valid) in
-      omega (arith, one)
+  short t = grind (arith, nat_tests, least_positive, are_delayed)
 
   run_next : (t : ℕ) (logs : Logs) → suc t ≤ config.horizon.0 + 1 → IsRunTo config rows t logs
       → (longer : Logs) × IsRunTo config rows (suc t) longer
@@ -268,8 +207,7 @@ told_rise site (e ∷ es) o = (told_late site (entry_time e) es (times_from entr
 module _ (config : Config) (rows : List Row) (until : ℕ) (logs : Logs) (run : IsRunTo config rows until logs) where
   own_events : (node : ℕ) (o : Option Site) → site_at config node ≡ o
       → AllByRecursion (λ e. event_node e ≡ node) (option_map_or (λ site. events site (log_at logs node)) o [])
-  own_events node None e = tt
-  own_events node (Some site) e = node_events site node (log_at logs node) (site_number config node site e)
+  own_events node o e = grind (arith, nat_tests, node_events, site_number)
 
   events_rise : (node : ℕ) (o : Option Site) → site_at config node ≡ o
       → NeverFalls event_time (option_map_or (λ site. events site (log_at logs node)) o [])
@@ -277,11 +215,7 @@ module _ (config : Config) (rows : List Row) (until : ℕ) (logs : Logs) (run : 
   events_rise node (Some site) e = told_rise site (log_at logs node) (run.each node site e).is_log.in_order
 
   no_events : (node : ℕ) → length config.nodes < node → events_at config logs node ≡ []
-  no_events node l = elim (slice_get_cases config.nodes node).1 [
-    | inl there ↦ absurd (omega (arith, l, there.1))
-    | inr past ↦
-        ap (λ (o : Option NodePlan). option_map_or (λ site. events site (log_at logs node)) (option_map (λ (p : NodePlan). site_of node p (links_out node config.links)) o) []) past.1
-  ]
+  no_events node l = grind (arith, nat_tests, slice_get_cases)
 
   pub told : (es : List Event) × AreEvents config logs es
   told =

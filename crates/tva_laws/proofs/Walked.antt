@@ -1,5 +1,5 @@
 -- The paths of the worked walk are steady: up to its list, its nonce alone and its renewal.
-use Rattle.tva_laws.proofs.Common.{◌≡◌, ◌<◌, ℕ, List, [], ◌∷◌, ◌++◌, Some, None, refl, subst, arith, IsSomeAnd, AllByRecursion, All-nil, All-from_recursion, Regular, Legacy, Rights, in_force, credit_of, layout, two_bytes, six_bytes, eight_bytes, number_bytes, PacketData, FromTrace, Arrived, Took, Started, at_place, Deal, Prepared, Granted, Coming, coming, deals, ask_coming, IsNoGrant, ComesInTime, ComesUnder, IsBegun, walk_b, walk_flow, walk_rights, walk_router, walk_host_a, walk_cap, walk_precap, walk_grant, walk_fate, walk_request, walk_list, walk_bare, walk_spoofed, walk_nonce, walk_renewal, walk_passes, walk_before_list, walk_before_nonce, walk_before_renewal, walk_log_a, walk_list_comes, walk_nonce_comes, walk_renewal_comes, IsSteadyBehind, IsListWhole}
+use Rattle.tva_laws.proofs.Common.{◌≡◌, ◌<◌, ℕ, List, [], ◌∷◌, ◌++◌, Some, None, refl, arith, AllByRecursion, All-nil, All-from_recursion, Regular, Legacy, Rights, in_force, credit_of, layout, two_bytes, six_bytes, eight_bytes, number_bytes, PacketData, FromTrace, Arrived, Took, Started, at_place, Deal, Prepared, Granted, Coming, coming, deals, IsNoGrant, ComesInTime, ComesUnder, IsBegun, walk_b, walk_flow, walk_rights, walk_router, walk_host_a, walk_cap, walk_precap, walk_grant, walk_fate, walk_request, walk_list, walk_bare, walk_spoofed, walk_nonce, walk_renewal, walk_passes, walk_before_list, walk_before_nonce, walk_before_renewal, walk_log_a, walk_list_comes, walk_nonce_comes, walk_renewal_comes, IsSteadyBehind, IsListWhole, nat_tests}
 use Rattle.tva_laws.proofs.WorkedRuns.{came_so}
 
 abbrev own : List Deal
@@ -98,29 +98,18 @@ only_grant : (t : ℕ) (p : PacketData) (r : Rights) (cs : List ℕ) (ds : List 
     → (Prepared t p ∷ [] ≡ first) × (ds ≡ rest)
 only_grant t p r cs ds none [] rights caps rest e = absurd (cc)
 only_grant t p r cs ds none (d ∷ []) rights caps rest e = (cc, cc)
-only_grant t p r cs ds none (d ∷ f ∷ fs) rights caps rest e =
-    let tail : ds ≡ fs ++ Granted rights caps ∷ rest = cc in
-    absurd (at_place IsNoGrant ds fs (Granted rights caps) rest tail none)
+only_grant t p r cs ds none (d ∷ f ∷ fs) rights caps rest e = grind (arith, nat_tests, at_place)
 
 list_begun : IsBegun walk_host_a walk_router 1000520 dealt (request_coming ∷ list_coming ∷ []) 5003420 request_coming
 unfolding in_force
-list_begun = record {
-  behind = (λ it. omega arith, (λ it. omega arith, tt));
-  minted = (λ it none. tt, (λ it none. refl, tt));
-  boot = refl;
-}
+list_begun = grind (arith, nat_tests)
 
 pub whole_list : IsListWhole
 whole_list = record {
   each = (request_in_time, tt);
   last = came_so (asked ∷ granted ∷ []) 4002900 (walk_list 0 0) (named ∷ renewed ∷ []) refl refl (omega arith) (omega arith);
   order = (All-nil (λ n. 2 < n), tt);
-  begun = λ first rights caps rest e it.
-      let is = only_grant 0 (walk_request 0 []) walk_rights (walk_cap walk_flow ∷ []) dealt (tt, (tt, (tt, tt))) first rights caps rest e in
-      subst (λ (ds : List Deal). IsSomeAnd (ask_coming (request_coming ∷ []) first)
-      (IsBegun walk_host_a walk_router 1000520 ds (request_coming ∷ list_coming ∷ []) 5003420)) is.1
-      (subst (λ (ds : List Deal). IsSomeAnd (ask_coming (request_coming ∷ []) ds)
-      (IsBegun walk_host_a walk_router 1000520 dealt (request_coming ∷ list_coming ∷ []) 5003420)) is.0 list_begun);
+  begun = grind (arith, nat_tests, only_grant, list_begun);
   paid = tt;
   room = λ e. omega arith;
 }

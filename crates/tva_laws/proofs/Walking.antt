@@ -1,5 +1,5 @@
 -- The logs of the worked walk are a run.
-use Rattle.tva_laws.proofs.Common.{◌≡◌, ℕ, zero, suc, List, [], ◌∷◌, Some, refl, subst, arith, same_Some, Regular, in_force, credit_of, AreSomeRights, layout, two_bytes, six_bytes, eight_bytes, number_bytes, check_of, Valid, list_verdict, nonce_verdict, is_granted, under_grant, decision, link_to, answer_to_shown, answer_to_nonce, judged_shim, handle, intended, after_intending, receipt_of, after_receipt, from_source, Input, FromTrace, Arrival, Site, site_of, Arrived, Entry, input_source, content, arrived, GoesOn, due, start_after, at_time, links_out, log_at, reaches, site_at, HasLog, IsRunTo, Way, walk_flow, walk_back, walk_rights, walk_router, walk_host_a, walk_host_b, walk_config, walk_first, walk_spoofed, walk_second, walk_third, walk_rows, walk_cap, walk_grant, walk_fate, walk_entry, walk_request, walk_reply, walk_list, walk_bare, walk_nonce, walk_renewal, walk_precap, walk_before_list, walk_before_renewal, walk_log_a, walk_log_b, walk_log_router, walk_logs, walk_until, walk_list_comes, walk_nonce_comes, walk_renewal_comes, segment_due, range_of, after_upper, answer_to}
+use Rattle.tva_laws.proofs.Common.{◌≡◌, ℕ, suc, List, [], ◌∷◌, Some, refl, arith, same_Some, Regular, in_force, credit_of, AreSomeRights, layout, two_bytes, six_bytes, eight_bytes, number_bytes, check_of, Valid, list_verdict, nonce_verdict, is_granted, under_grant, decision, link_to, answer_to_shown, answer_to_nonce, judged_shim, handle, intended, after_intending, receipt_of, after_receipt, from_source, Input, FromTrace, Arrival, Site, site_of, Arrived, Entry, input_source, content, arrived, GoesOn, due, start_after, at_time, links_out, log_at, reaches, site_at, HasLog, IsRunTo, Way, walk_flow, walk_back, walk_rights, walk_router, walk_host_a, walk_host_b, walk_config, walk_first, walk_spoofed, walk_second, walk_third, walk_rows, walk_cap, walk_grant, walk_fate, walk_entry, walk_request, walk_reply, walk_list, walk_bare, walk_nonce, walk_renewal, walk_precap, walk_before_list, walk_before_renewal, walk_log_a, walk_log_b, walk_log_router, walk_logs, walk_until, walk_list_comes, walk_nonce_comes, walk_renewal_comes, segment_due, range_of, after_upper, answer_to, nat_tests}
 use Rattle.tva_plan.specs.declared.config.NodePlan.TheVariants as plans
 use Rattle.tva_laws.proofs.EachMile.{valid}
 use Rattle.tva_laws.proofs.WorkedRuns.{none_from, has_by, by_number}
@@ -92,8 +92,7 @@ renewal_passes = rw renewal_valid refl
 
 router_steps : GoesOn router_site [] router_inputs walk_log_router
 unfolding layout two_bytes six_bytes eight_bytes number_bytes credit_of nonce_verdict link_to answer_to_nonce judged_shim handle arrived decision start_after in_force
-router_steps =
-    (refl, refl, (refl, (refl, refl, (refl, (refl, list_passes, (refl, (refl, refl, (refl, (refl, refl, (refl, (refl, renewal_passes, (refl, tt))))))))))))
+router_steps = grind (arith, nat_tests, list_passes, renewal_passes)
 
 a_steps : GoesOn a_site [] a_inputs walk_log_a
 unfolding layout two_bytes six_bytes eight_bytes number_bytes credit_of is_granted under_grant decision link_to intended after_intending receipt_of after_receipt segment_due range_of after_upper answer_to start_after
@@ -124,10 +123,7 @@ b_has = has_by walk_config walk_rows walk_logs walk_until b_site b_inputs walk_l
     (record { turns = refl; gives = b_gives; order = refl; early = refl; steps = b_steps; calm = (refl, tt) })
 
 has : (node : ℕ) (site : Site) → site_at walk_config node ≡ Some site → Has site (log_at walk_logs node)
-has zero site e = subst (λ (s : Site). Has s walk_log_router) (same_Some router_site site e) router_has
-has (suc zero) site e = subst (λ (s : Site). Has s walk_log_a) (same_Some a_site site e) a_has
-has (suc (suc zero)) site e = subst (λ (s : Site). Has s walk_log_b) (same_Some b_site site e) b_has
-has (suc (suc (suc n))) site e = absurd (cc)
+has node site e = grind (arith, nat_tests, same_Some, router_has, a_has, b_has)
 
 pub is_run : IsRunTo walk_config walk_rows walk_until walk_logs
 is_run = record { within = omega arith; count = refl; each = has }

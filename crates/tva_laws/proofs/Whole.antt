@@ -1,6 +1,5 @@
 -- A configuration and a trace have a run up to each time, its events, and a report.
-use Rattle.tva_laws.proofs.Common.{ℕ, ◌+◌, ◌≤◌, List, refl, arith, Event, Config, IsConfig, Row, AreRows, AreTraceRows, Logs, IsRunTo, AreEventsTo, IsReport, report_of}
-use Rattle.tva_laws.proofs.ReadRows.{rows_are_valid}
+use Rattle.tva_laws.proofs.Common.{ℕ, ◌+◌, ◌≤◌, List, refl, arith, Event, Config, IsConfig, Row, AreTraceRows, Logs, IsRunTo, AreEventsTo, IsReport, report_of}
 use Rattle.tva_laws.proofs.There.{run_to, told, traced_placed}
 
 module _ (config : Config) (rows : List Row) (valid : IsConfig config) where
@@ -14,20 +13,11 @@ module _ (config : Config) (rows : List Row) (valid : IsConfig config) where
       let es = events_of (config.horizon.0 + 1) run in
       (report_of config es.0, record { told = es.0; events = es.1; whole = refl })
 
-  -- the rows of a trace
   pub traced_run : AreTraceRows config rows → (until : ℕ) → until ≤ config.horizon.0 + 1 → (logs : Logs) × IsRunTo config rows until logs
   traced_run trace until within = run_to config rows valid trace.order (traced_placed config rows trace.each) until within
 
   pub traced_report : AreTraceRows config rows → (text : List ℕ) × IsReport config rows text
   traced_report trace = report_there (traced_run trace (config.horizon.0 + 1) (omega arith))
 
-  -- the rows that a text stands for
-  pub read_run : (text : List ℕ) → AreRows config text rows → (until : ℕ) → until ≤ config.horizon.0 + 1
-      → (logs : Logs) × IsRunTo config rows until logs
-  read_run text are = traced_run (rows_are_valid config text rows are)
-
-  pub read_events : (text : List ℕ) → AreRows config text rows → (es : List Event) × AreEventsTo config rows (config.horizon.0 + 1) es
-  read_events text are = events_of (config.horizon.0 + 1) (read_run text are (config.horizon.0 + 1) (omega arith))
-
-  pub read_report : (text : List ℕ) → AreRows config text rows → (report : List ℕ) × IsReport config rows report
-  read_report text are = traced_report (rows_are_valid config text rows are)
+  pub traced_events : AreTraceRows config rows → (es : List Event) × AreEventsTo config rows (config.horizon.0 + 1) es
+  traced_events trace = events_of (config.horizon.0 + 1) (traced_run trace (config.horizon.0 + 1) (omega arith))

@@ -1,5 +1,5 @@
 -- In each run a path that the whole flow keeps to is steady: it is so in the narrower words.
-use Rattle.tva_laws.proofs.Common.{◌≡◌, ◌≤◌, ◌<◌, ◌⊎◌, inl, inr, ℕ, Bool, true, cond, List, [], ◌∷◌, ◌++◌, map, is_some, Option, Some, None, refl, ap, sym, subst, ◌∙◌, arith, append_assoc, append-nil, IsSomeAnd, filter, ◌==◌, option_map, option_and_then, IfSome, AllByRecursion, eqb-true, eq-eqb, filter-append, Grant, PacketId, Rights, boot_at, in_force, PacketData, AreRising, charges_at, arrival, force_clock, Config, IsConfig, Row, filter_swap, filter-all, each-filter, Arrived, Took, input_time, charges, Logs, log_at, IsRunTo, at_place, each_front, past_at, Deal, Prepared, Granted, Noticed, Coming, shows, same_id, come_as, last_ask_id, ask_coming, IsNoGrant, ShowsMinted, ComesInTime, comings_at, WasCharged, grant_came, since_granted, those_charged, IsNarrowPath, IsBegun, IsWholePath, AreWholeSteady}
+use Rattle.tva_laws.proofs.Common.{◌≡◌, ◌≤◌, ◌<◌, ◌⊎◌, inl, inr, ℕ, Bool, true, List, [], ◌∷◌, ◌++◌, map, is_some, Option, Some, None, refl, ap, sym, subst, ◌∙◌, arith, append_assoc, append-nil, IsSomeAnd, filter, ◌==◌, option_map, option_and_then, IfSome, AllByRecursion, eqb-true, eq-eqb, filter-append, Grant, PacketId, Rights, boot_at, in_force, PacketData, AreRising, charges_at, arrival, force_clock, Config, IsConfig, Row, filter_swap, filter-all, each-filter, Arrived, Took, input_time, charges, Logs, log_at, IsRunTo, at_place, each_front, past_at, Deal, Prepared, Granted, Noticed, Coming, shows, come_as, ask_coming, IsNoGrant, ShowsMinted, ComesInTime, comings_at, WasCharged, grant_came, since_granted, those_charged, IsNarrowPath, IsBegun, IsWholePath, AreWholeSteady, nat_tests}
 use Rattle.tva_laws.proofs.Given.{AreGiven}
 use Rattle.tva_laws.proofs.Falls.{come_by}
 use Rattle.tva_laws.proofs.RisingLists.{each_at, each_kept, Rises, rises_from, rising_from, rises-push, rises_last}
@@ -19,12 +19,10 @@ use Rattle.tva_laws.proofs.Charged.{own_grant}
 
 asked_in : (P : Coming → Type 0) (seen : List Coming) (o : Option PacketId) (y : Coming) → AllByRecursion P seen
     → option_and_then (come_as seen) o ≡ Some y → P y
-asked_in P seen None y k e = absurd (cc)
-asked_in P seen (Some id) y k e = (come_is P seen id y k e).0
+asked_in P seen o y k e = grind (arith, nat_tests, come_is, seen)
 
 some_of : (o : Option Grant) → is_some o ≡ true → (g : Grant) × (o ≡ Some g)
-some_of None e = absurd (cc)
-some_of (Some g) e = (g, refl)
+some_of o e = grind (arith, nat_tests)
 
 module _ (m : Passage) where
   open m use {logs, run, sender, node, is_from, to, host, router, is_to, to_plan, past, input, on, packet, fate, onward, rest, here, unmarked, shown, delay}
@@ -53,14 +51,7 @@ module _ (m : Passage) where
   -- what is behind a place in the host's order is among the deals behind it
   in_rest : (before : List Deal) (t : ℕ) (q : PacketData) (after : List Deal) (id : PacketId) → own m ≡ before ++ Prepared t q ∷ after
       → In (own m) id → q.id.ordinal < id.ordinal → In after id
-  in_rest before t q after id place i less =
-      by (in_append before (Prepared t q ∷ after) id (subst (λ (ds : List Deal). In ds id) place i))
-    where
-      by : In before id ⊎ In (Prepared t q ∷ after) id → In after id
-      by (inl k) = absurd (let more = in_front before t q after id (subst (λ (ds : List Deal). Rises (keys ds)) place (rises m)) k in omega (arith, less, more))
-      by (inr (inl k)) =
-          absurd (let same : q.id.ordinal ≡ id.ordinal = ap (λ (z : PacketId). z.ordinal) k in omega (arith, less, same))
-      by (inr (inr k)) = k
+  in_rest before t q after id place i less = grind (arith, nat_tests, in_append, in_front, keys, rises)
 
   module _ (whole : IsWholePath host router delay (own m) (seen m) (held m) (last m)) where
     abbrev goal : InTime m (last m)
@@ -75,17 +66,9 @@ module _ (m : Passage) where
       came : ask_coming (seen m) l.first ≡ Some ask
       begun : IsBegun host router delay (l.under ++ tail) met (now m) ask
 
-    begun_by : (before : List Deal) (l : LastAt before) (tail : List Deal) (o : Option Coming) → ask_coming (seen m) l.first ≡ o
-        → IsSomeAnd o (IsBegun host router delay (l.under ++ tail) met (now m)) → BegunSo before l tail
-    begun_by before l tail None e k = absurd k
-    begun_by before l tail (Some x) e k = record { ask = x; came = e; begun = k }
-
     begun_so : (before : List Deal) (l : LastAt before) (tail : List Deal) → own m ≡ before ++ tail
         → ComesInTime host delay (l.under ++ tail) (last m) → BegunSo before l tail
-    begun_so before l tail place c =
-        begun_by before l tail (ask_coming (seen m) l.first) refl
-        (whole.begun l.first l.rights l.caps (l.under ++ tail) (place ∙ (ap (λ (ds : List Deal). ds ++ tail) l.is
-        ∙ append_assoc l.first (Granted l.rights l.caps ∷ l.under) tail)) c)
+    begun_so before l tail place c = grind (arith, nat_tests, seen, append_assoc)
 
     record Behind (y : Coming) (it : InTime m y) : Type 0 where
       behind : IfSome (grant_came (seen m) [] it.before) (λ t. t ≤ y.time)
@@ -101,12 +84,7 @@ module _ (m : Passage) where
     is_behind front y back e it boots more = by (split_last it.before)
       where
         by : AllByRecursion IsNoGrant it.before ⊎ LastAt it.before → Behind y it
-        by (inl none) =
-            let no : grant_came (seen m) [] it.before ≡ None = came-under (seen m) [] it.before none in
-            record {
-              behind = subst (λ (o : Option ℕ). IfSome o (λ t. t ≤ y.time)) (sym no) tt;
-              minted = subst (λ (o : Option ℕ). IfSome o (λ t. ShowsMinted (in_force router y.time) y.packet y.packet.carried t)) (sym no) tt;
-            }
+        by (inl none) = grind (arith, nat_tests, seen m, came-under (seen m) [] it.before none)
         by (inr l) =
             let b = begun_so it.before l (Prepared it.sent it.packet ∷ it.after) it.place (more l) in
             let there : ComesInTime host delay (l.under ++ Prepared it.sent it.packet ∷ it.after) y = later m l.under y it in
@@ -115,31 +93,14 @@ module _ (m : Passage) where
             let minted : ShowsMinted (in_force router b.ask.time) y.packet y.packet.carried b.ask.time =
             at_place (λ (z : Coming). (u : ComesInTime host delay (l.under ++ Prepared it.sent it.packet ∷ it.after) z) → AllByRecursion IsNoGrant u.before
             → ShowsMinted (in_force router b.ask.time) z.packet z.packet.carried b.ask.time) met front y back e b.begun.minted there l.none in
-            record {
-              behind = subst (λ (o : Option ℕ). IfSome o (λ t. t ≤ y.time)) (sym is)
-                  (at_place (λ (z : Coming). ComesInTime host delay (l.under ++ Prepared it.sent it.packet ∷ it.after) z → b.ask.time ≤ z.time) met front y back e
-                  b.begun.behind there);
-              minted = subst (λ (o : Option ℕ). IfSome o (λ t. ShowsMinted (in_force router y.time) y.packet y.packet.carried t)) (sym is)
-                  (minted_with (in_force router b.ask.time) (in_force router y.time) y.packet b.ask.time
-                  (one_master router b.ask.time y.time (b.begun.boot ∙ sym boots))
-                  (force_clock router b.ask.time ∙ sym (force_clock router y.time)) y.packet.carried minted);
-            }
+            grind (arith, nat_tests, at_place, front, minted_with, one_master, boot, force_clock)
 
     abbrev last_so : Steadily m (last m)
     last_so =
         steadily (last m) goal (is_behind (seen m) (last m) [] refl goal refl (λ l. later m l.under (last m) goal))
 
-    -- what showed a grant came in order
-    shown_first : filter Shows met ≡ filter Shows (seen m) ++ last m ∷ []
-    shown_first =
-        filter-append Shows (seen m) (last m ∷ [])
-        ∙ ap (λ (b : Bool). filter Shows (seen m) ++ cond b (last m ∷ []) []) shown
-
     in_order_so : AreBefore (last m) (map come_key (filter Shows (seen m)))
-    in_order_so =
-        rises_last (map come_key (filter Shows (seen m))) (come_key (last m))
-        (subst Rises (ap (map come_key) shown_first ∙ keys_push (filter Shows (seen m)) (last m))
-        (rises_from (map come_key (filter Shows met)) whole.order))
+    in_order_so = grind (arith, nat_tests, rises_last, come_key, seen, last, keys_push, rises_from, filter-append)
 
     earlier_so : AllByRecursion (λ y. Shows y ≡ true → come_key y < come_key (last m)) (seen m)
     earlier_so = key_kept (λ n. n < come_key (last m)) Shows (seen m) in_order_so.1
@@ -164,12 +125,7 @@ module _ (m : Passage) where
         it = at_place (InTime m) (seen m) front y back e whole.each
 
         less : it.packet.id.ordinal < packet.id.ordinal
-        less =
-            let same : it.packet.id.ordinal ≡ come_key y = ap (λ (z : PacketId). z.ordinal) it.same in
-            let below : come_key y < packet.id.ordinal =
-            at_place (λ y. Shows y ≡ true → come_key y < come_key (last m)) (seen m) front y back e earlier_so
-            (at_place (λ y. is_some y.charge ≡ true → Shows y ≡ true) (seen m) front y back e shows_so charged) in
-            omega (arith, same, below)
+        less = grind (arith, nat_tests, it, come_key, at_place, last, seen, front, earlier_so, shows_so)
 
     each_so : AllByRecursion (Steadily m) (those_charged (boot m))
     each_so =
@@ -204,17 +160,7 @@ module _ (m : Passage) where
 
     asked_so : (before : List Deal) (rights : Rights) (caps : List ℕ) (after : List Deal)
         → goal.before ≡ before ++ Granted rights caps ∷ after → IsSomeAnd (ask_coming (seen m) before) (InTime m)
-    asked_so before rights caps after e =
-        by (ask_coming (seen m) before) refl
-        (whole.begun before rights caps (after ++ Prepared goal.sent goal.packet ∷ goal.after)
-        (goal.place ∙ (ap (λ (ds : List Deal). ds ++ Prepared goal.sent goal.packet ∷ goal.after) e
-        ∙ append_assoc before (Granted rights caps ∷ after) (Prepared goal.sent goal.packet ∷ goal.after)))
-        (later m after (last m) goal))
-      where
-        by : (o : Option Coming) → ask_coming (seen m) before ≡ o
-            → IsSomeAnd o (IsBegun host router delay (after ++ Prepared goal.sent goal.packet ∷ goal.after) met (now m)) → IsSomeAnd o (InTime m)
-        by None k b = absurd b
-        by (Some y) k b = asked_in (InTime m) (seen m) (last_ask_id before) y whole.each k
+    asked_so before rights caps after e = grind (arith, nat_tests, seen, append_assoc, later, last, now, asked_in)
 
     -- ## its own grant
 
@@ -256,12 +202,7 @@ module _ (m : Passage) where
             (sym (append-nil (own_so.under ++ tail))))) it a).comes in
             let low = boots_rise router own_begun.ask.time y.time late in
             let high = boots_rise router y.time (now m) early in
-            let boots : boot_at router own_begun.ask.time ≡ boot_at router (now m) = own_begun.begun.boot in
-            let is_now : boot_at router y.time ≡ boot_at router (now m) = omega (arith, low, high, boots) in
-            let found : come_as (boot m) q.id ≡ Some y =
-            find_passing (λ (z : Coming). boot_at router z.time == boot_at router (now m)) (λ (z : Coming). same_id z.packet.id q.id)
-            (seen m) y c (eq-eqb (boot_at router y.time) (boot_at router (now m)) is_now) in
-            ap (λ (o : Option Coming). is_some (option_and_then (λ (z : Coming). z.charge) o)) found ∙ k
+            grind (arith, nat_tests, own_begun, now, boot, find_passing, seen, eq-eqb)
 
     paid_so : AllByRecursion (WasCharged (boot m)) (since_granted [] goal.before)
     paid_so =

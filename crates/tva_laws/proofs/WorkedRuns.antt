@@ -1,5 +1,5 @@
 -- How worked logs are shown to be a run: their order, that all is early and that no start is left out, each by a test.
-use Rattle.tva_laws.proofs.Common.{◌≡◌, ◌≤◌, ◌<◌, ◌+◌, ◌⊎◌, inl, inr, ℕ, zero, suc, Bool, true, false, ◌&&◌, ◌||◌, cond, eqb, ltb, leb, List, [], ◌∷◌, ◌++◌, Option, Some, None, refl, ap, sym, subst, ◌∙◌, arith, append-nil, append_assoc, nat_le, nat_lt, option_and_then, option_map, AllByRecursion, find, cases_lt, lt-ltb, ltb-true, leb-true, eqb-true, nat_tests, LinkLimits, HostPlan, LinkPlan, PacketData, and_true, decision, Config, Row, MayPrecede, IsInOrder, from_source, cut, filter-true, filter-none, cut-late, each_later, Input, Site, Entry, input_time, input_source, entry_time, entry_rank, port_logs, GoesOn, due, start_of, start_after, Logs, reaches, HasLog, Deal, Prepared, Coming, ComesInTime}
+use Rattle.tva_laws.proofs.Common.{◌≡◌, ◌≤◌, ◌<◌, ◌+◌, ◌⊎◌, inl, inr, ℕ, zero, suc, Bool, true, false, ◌&&◌, ◌||◌, cond, eqb, ltb, leb, List, [], ◌∷◌, ◌++◌, Option, Some, None, refl, ap, sym, subst, ◌∙◌, arith, append-nil, append_assoc, nat_lt, option_and_then, option_map, AllByRecursion, find, cases_lt, lt-ltb, ltb-true, leb-true, eqb-true, nat_tests, LinkLimits, HostPlan, LinkPlan, PacketData, and_true, Config, Row, MayPrecede, IsInOrder, from_source, cut, filter-true, filter-none, cut-late, each_later, Input, Site, Entry, input_time, input_source, entry_time, entry_rank, port_logs, GoesOn, due, start_after, Logs, reaches, HasLog, Deal, Prepared, Coming, ComesInTime, RouterPlan, ShowsMinted, in_force, ComesUnder}
 use Rattle.tva_port.specs.declared.requests.RequestQueues.{RequestQueues}
 use Rattle.tva_port.specs.declared.requests.RequestQueues.TheVariants.{OneLevel, TwoLevels}
 use Rattle.tva_port.specs.Log as port
@@ -10,9 +10,7 @@ use Rattle.tva_port.proofs.Idling.{empty_idles}
 -- ## order, by a test
 
 may_by : (a b c d : ℕ) (x : Bool) → ltb a c ≡ x → (x || (eqb a c && leb b d)) ≡ true → (a < c) ⊎ ((a ≡ c) × (b ≤ d))
-may_by a b c d true e k = inl (ltb-true a c e)
-may_by a b c d false e k =
-    let parts = and_true (eqb a c) (leb b d) k in inr (eqb-true a c parts.0, leb-true b d parts.1)
+may_by a b c d x e k = grind (arith, nat_tests, ltb-true, and_true, eqb-true, leb-true)
 
 module _ {X : Type 0} (time source : X → ℕ) where
   abbrev pub all_behind : X → List X → Bool
@@ -48,8 +46,7 @@ each_apart : (most s : ℕ) (inputs : List Input) → most < s → are_within mo
 each_apart most s [] l e = tt
 each_apart most s (i ∷ is) l e =
     let k = and_true (leb (input_source i) most) (are_within most is) e in
-    let few = leb-true (input_source i) most k.0 in
-    (apart (input_source i) s (omega (arith, few, l)), each_apart most s is l k.1)
+    grind (arith, nat_tests, leb-true, apart, each_apart most s is l k.1)
 
 -- none comes from a source past them
 pub none_from : (most s : ℕ) (inputs : List Input) → most < s → are_within most inputs ≡ true → from_source input_source s inputs ≡ []
@@ -83,6 +80,10 @@ abbrev pub came_so : {host : HostPlan} {delay : ℕ} {own : List Deal} {x : Comi
 came_so before sent packet after place same from until =
     record { before = before; sent = sent; packet = packet; after = after; place = place; same = same; from = from; until = until }
 
+abbrev pub under_so : {host : HostPlan} {router : RouterPlan} {delay : ℕ} {under : List Deal} {came : ℕ} {x : Coming} → ComesInTime host delay under x
+    → came ≤ x.time → ShowsMinted (in_force router x.time) x.packet x.packet.carried came → ComesUnder host router delay under came x
+under_so in_time behind minted = record { in_time = in_time; behind = behind; minted = minted }
+
 -- ## times
 
 abbrev pub are_early : ℕ → List Entry → Bool
@@ -98,11 +99,7 @@ early_by until (x ∷ xs) e =
 
 rests : (l : LinkLimits) (log : List port.Entry) (u : ℕ) → IsEmpty (waiting_after l log) → start_after l log u ≡ None
 unfolding start_after
-rests l log u e = by (nat_le (port.free_after l log) u)
-  where
-    by : (b : Bool) → cond b (start_of (decision l log u)) None ≡ None
-    by true = ap start_of (empty_idles l log u e)
-    by false = refl
+rests l log u e = grind (arith, nat_tests, empty_idles)
 
 -- what holds of each front behind which nothing of a time stands holds of what comes up to that time
 module _ (P : List Entry → Type 0) (u : ℕ) where
@@ -128,26 +125,18 @@ abbrev pub is_nil : {X : Type 0} → List X → Bool
 is_nil [] = true
 is_nil (x ∷ xs) = false
 
-nil_by : {X : Type 0} (xs : List X) → is_nil xs ≡ true → xs ≡ []
-nil_by [] e = refl
-nil_by (x ∷ xs) e = absurd (cc)
-
 abbrev pub are_none : RequestQueues → Bool
 are_none (OneLevel f) = is_nil f.queues
 are_none (TwoLevels h) = is_nil h.groups
 
 none_by : (q : RequestQueues) → are_none q ≡ true → AreNone q
-none_by (OneLevel f) e = nil_by f.queues e
-none_by (TwoLevels h) e = nil_by h.groups e
+none_by q e = grind (arith, nat_tests)
 
 abbrev pub is_empty : Waiting → Bool
 is_empty w = are_none w.requests && (is_nil w.regulars.queues && is_nil w.legacy)
 
 empty_by : (w : Waiting) → is_empty w ≡ true → IsEmpty w
-empty_by w e =
-    let k = and_true (are_none w.requests) (is_nil w.regulars.queues && is_nil w.legacy) e in
-    let m = and_true (is_nil w.regulars.queues) (is_nil w.legacy) k.1 in
-    record { requests = none_by w.requests k.0; regulars = nil_by w.regulars.queues m.0; legacy = nil_by w.legacy m.1 }
+empty_by w e = grind (arith, nat_tests, and_true)
 
 -- a link starts nothing before a time: nothing waits, or it is busy until then
 abbrev pub rests_until : LinkLimits → List port.Entry → ℕ → Bool
@@ -155,17 +144,7 @@ rests_until l log time = is_empty (waiting_after l log) || leb time (port.free_a
 
 rest_by : (l : LinkLimits) (log : List port.Entry) (time u : ℕ) → rests_until l log time ≡ true → u < time → start_after l log u ≡ None
 unfolding start_after
-rest_by l log time u e f = by (is_empty (waiting_after l log)) refl e
-  where
-    busy : (b : Bool) → nat_le (port.free_after l log) u ≡ b → time ≤ port.free_after l log
-        → cond b (start_of (decision l log u)) None ≡ None
-    busy true is late = absurd (let free = leb-true (port.free_after l log) u is in omega (arith, free, late, f))
-    busy false is late = refl
-
-    by : (b : Bool) → is_empty (waiting_after l log) ≡ b → (b || leb time (port.free_after l log)) ≡ true
-        → cond (nat_le (port.free_after l log) u) (start_of (decision l log u)) None ≡ None
-    by true is t = rests l log u (empty_by (waiting_after l log) is)
-    by false is t = busy (nat_le (port.free_after l log) u) refl (leb-true time (port.free_after l log) t)
+rest_by l log time u e f = grind (arith, nat_tests, leb-true, rests, empty_by)
 
 -- behind each front of the log nothing waits for a link, but where more happens at the same time, or while the link is busy
 abbrev pub is_calm : LinkLimits → ℕ → ℕ → List Entry → List Entry → Bool
@@ -185,8 +164,7 @@ calm_fronts l link u last before (e ∷ es) s c =
     front : u < entry_time e → (b : Bool) → leb (entry_time e) last ≡ b
         → (b || rests_until l (port_logs before link) (entry_time e)) ≡ true
         → start_after l (port_logs before link) u ≡ None
-    front f true is t = absurd (let early = leb-true (entry_time e) last is in omega (arith, f, s, early))
-    front f false is t = rest_by l (port_logs before link) (entry_time e) u t f
+    front f b is t = grind (arith, nat_tests, leb-true, rest_by)
 
 abbrev pub IsCalm : List Entry → ℕ × LinkPlan → Type 0
 IsCalm log o = is_calm o.1.limits o.0 0 [] log ≡ true
@@ -210,9 +188,7 @@ none_starts log order u link (o ∷ os) c = by (eqb o.0 link) refl (none_starts 
     by : (b : Bool) → eqb o.0 link ≡ b
         → found_start (cut entry_time (suc u) log) link u (find (λ (o : ℕ × LinkPlan). eqb o.0 link) os)
         → found_start (cut entry_time (suc u) log) link u (cond b (Some o) (find (λ (o : ℕ × LinkPlan). eqb o.0 link) os))
-    by true e others =
-        subst (λ (n : ℕ). start_after o.1.limits (port_logs (cut entry_time (suc u) log) n) u ≡ None) (eqb-true o.0 link e)
-        (calm_rests log order u o c.0)
+    by true e others = grind (arith, nat_tests, eqb-true, calm_rests)
     by false e others = others
 
 -- ## a node's log

@@ -3,25 +3,20 @@ ghost use Rattle.std.specs.Prelude.{ℕ, ◌+◌, ◌≤◌, List};
 ghost use Rattle.tva_plan.specs.declared.config.Config.{Config};
 ghost use Rattle.tva_plan.specs.Valid.{IsConfig};
 ghost use Rattle.tva_rows.specs.declared.rows.Row.{Row};
-ghost use Rattle.tva_trace.specs.Meaning.{AreRows};
 ghost use Rattle.tva_rows.specs.Valid.{AreTraceRows};
 ghost use Rattle.tva_run.specs.Reaching.{Logs};
 ghost use Rattle.tva_run.specs.Run.{IsRunTo};
 ghost use Rattle.tva_run.specs.Report.{IsReport};
 
-/// A valid configuration has a run of the rows of a trace, and of the rows that a text stands for, up to
-/// each time, in nanoseconds and no later than just past the horizon.
+/// A valid configuration has a run of the rows of a trace up to each time, in nanoseconds and no later than just
+/// past the horizon.
 pub fn runs_are_there()
-    ensures traced { (config : Config) (rows : List Row) (until : ℕ) → IsConfig config → AreTraceRows config rows
+    ensures { (config : Config) (rows : List Row) (until : ℕ) → IsConfig config → AreTraceRows config rows
         → until ≤ config.horizon.0 + 1 → (logs : Logs) × IsRunTo config rows until logs }
-    ensures read { (config : Config) (text : List ℕ) (rows : List Row) (until : ℕ) → IsConfig config
-        → AreRows config text rows → until ≤ config.horizon.0 + 1 → (logs : Logs) × IsRunTo config rows until logs }
 {}
 
 /// It has a report of them.
 pub fn reports_are_there()
-    ensures traced { (config : Config) (rows : List Row) → IsConfig config → AreTraceRows config rows
-        → (report : List ℕ) × IsReport config rows report }
-    ensures read { (config : Config) (text : List ℕ) (rows : List Row) → IsConfig config → AreRows config text rows
+    ensures { (config : Config) (rows : List Row) → IsConfig config → AreTraceRows config rows
         → (report : List ℕ) × IsReport config rows report }
 {}

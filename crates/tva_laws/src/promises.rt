@@ -15,7 +15,6 @@ ghost use Rattle.tva_plan.specs.declared.config.Config.{Config};
 ghost use Rattle.tva_plan.specs.declared.config.NodePlan.TheVariants.{Router};
 ghost use Rattle.tva_plan.specs.Valid.{IsConfig};
 ghost use Rattle.tva_rows.specs.declared.rows.Row.{Row};
-ghost use Rattle.tva_trace.specs.Meaning.{AreRows};
 ghost use Rattle.tva_rows.specs.Valid.{AreTraceRows};
 ghost use Rattle.tva_run.specs.declared.kinds.Input.{Input};
 ghost use Rattle.tva_run.specs.Sites.{IsSite, Site, site_of};
@@ -57,15 +56,11 @@ pub fn nodes_keep_promises()
         → AllByRecursion IsSizedEntry log }
 {}
 
-/// In every run up to a time, in nanoseconds, of a configuration and the rows of a trace, or the rows that
-/// a text stands for, the log of each node keeps its promises.
+/// In every run up to a time, in nanoseconds, of a configuration and the rows of a trace, the log of each node keeps
+/// its promises.
 pub fn runs_keep_promises()
-    ensures kept { (config : Config) (rows : List Row) (until : ℕ) (logs : Logs) → IsConfig config
+    ensures { (config : Config) (rows : List Row) (until : ℕ) (logs : Logs) → IsConfig config
         → AreTraceRows config rows → IsRunTo config rows until logs
-        → (node : ℕ) (site : Site) → site_at config node ≡ Some site
-        → KeepsPromises site until (log_at logs node) }
-    ensures read { (config : Config) (text : List ℕ) (rows : List Row) (until : ℕ) (logs : Logs) → IsConfig config
-        → AreRows config text rows → IsRunTo config rows until logs
         → (node : ℕ) (site : Site) → site_at config node ≡ Some site
         → KeepsPromises site until (log_at logs node) }
 {}

@@ -1,5 +1,5 @@
 -- What the answers to arrivals leave.
-use Rattle.tva_router.proofs.Common.{◌≡◌, ℕ, ◌<◌, ◌≤◌, List, ◌++◌, length, Option, Some, None, refl, sym, subst, arith, append-nil, RouterPlan, Verdict, Charge, charged, AreTimely, is_good, IsGoodOrNone, AreShown, Cache, Arrival, Guard, answer_of, charged_by, IsGuard, IsKnownAt, Keeps, grant_in}
+use Rattle.tva_router.proofs.Common.{◌≡◌, ℕ, ◌<◌, ◌≤◌, List, ◌++◌, length, Option, Some, None, refl, sym, subst, arith, append-nil, RouterPlan, Verdict, Charge, charged, AreTimely, is_good, IsGoodOrNone, AreShown, Cache, Arrival, Guard, answer_of, charged_by, IsGuard, IsKnownAt, Keeps, grant_in, rules, nat_tests, common_steps}
 use Rattle.std.specs.Option.{IfSome}
 use Rattle.tva_flow.specs.declared.verdicts.Verdict.TheVariants as verdict
 use Rattle.tva_caps.specs.declared.known.Good.{Good}
@@ -9,45 +9,22 @@ use Rattle.tva_flow.proofs.Indexed.{some_place}
 use Rattle.tva_flow.proofs.Shown.{shown-get}
 
 pub guard-later : (plan : RouterPlan) (last now : ℕ) (g : Guard) → last ≤ now → IsGuard plan last g → IsGuard plan now g
-guard-later plan last now g le k = record {
-  master = k.master;
-  clock = k.clock;
-  key = k.key;
-  slots = k.slots;
-  offset = k.offset;
-  minted = omega (arith, le, k.minted);
-  charged = omega (arith, le, k.charged);
-  known = k.known;
-  incoming = k.incoming;
-}
+guard-later plan last now g le k = grind arith
 
 -- a verdict charges what its answer does
 pub charged-answer : (v : Verdict) (now nonce bytes : ℕ) → charged v now nonce bytes ≡ charged_by (grant_in (answer_of v)) now nonce bytes
-charged-answer (verdict.Authorised grant) now nonce bytes = refl
-charged-answer verdict.Expired now nonce bytes = refl
-charged-answer verdict.OverN now nonce bytes = refl
-charged-answer verdict.UnknownNonce now nonce bytes = refl
-charged-answer verdict.CacheFull now nonce bytes = refl
-charged-answer verdict.Superseded now nonce bytes = refl
+charged-answer v now nonce bytes = grind arith
 
 -- nothing is charged
 pub keeps-nothing : (plan : RouterPlan) (a : Arrival) (nonce : ℕ) (c : Cache) → Keeps plan a None nonce c c
-keeps-nothing plan a nonce c = record {
-  stands = λ h s. subst (λ (z : List Charge). StandsFor c z) (sym (append-nil h)) s;
-  timely = λ h s t. subst (λ (z : List Charge). AreTimely plan.clock_offset z) (sym (append-nil h)) t;
-}
+keeps-nothing plan a nonce c = grind (arith, append-nil)
 
 -- what a verdict leaves
 pub keeps-verdict : (plan : RouterPlan) (a : Arrival) (nonce : ℕ) (v : Verdict) (old new : Cache) → old.offset ≡ plan.clock_offset
     → ((h : List Charge) → StandsFor old h → StandsFor new (h ++ charged v a.time.0 nonce a.bytes))
     → ((h : List Charge) → StandsFor old h → AreTimely old.offset h → AreTimely old.offset (h ++ charged v a.time.0 nonce a.bytes))
     → Keeps plan a (grant_in (answer_of v)) nonce old new
-keeps-verdict plan a nonce v old new clock stands timely = record {
-  stands = λ h s. subst (λ (z : List Charge). StandsFor new (h ++ z)) (charged-answer v a.time.0 nonce a.bytes) (stands h s);
-  timely = λ h s t.
-      subst (λ (z : List Charge). AreTimely plan.clock_offset (h ++ z)) (charged-answer v a.time.0 nonce a.bytes)
-      (subst (λ (o : ℕ). AreTimely o (h ++ charged v a.time.0 nonce a.bytes)) clock (timely h s (subst (λ (o : ℕ). AreTimely o h) (sym clock) t)));
-}
+keeps-verdict plan a nonce v old new clock stands timely = grind (arith, charged-answer)
 
 -- what is known at a place is good, where each entry has what is good for its grant
 pub known_good : (master : List ℕ) (es : List Entry) (at : Option ℕ) (known : Option Good) → IfSome at (λ i. i < length es) → IsKnownAt es at known → AreShown (is_good master) es → IsGoodOrNone master known

@@ -1,5 +1,5 @@
 -- What is left of a router where its plan in force gets another master, or a route another link.
-use Rattle.tva_router.proofs.Common.{◌≡◌, ℕ, ◌+◌, ◌<◌, ◌≤◌, Bool, true, false, cond, List, [], ◌∷◌, length, get_or, set, map, Some, None, refl, sym, ap, ◌∙◌, subst, zero, suc, arith, Contains, All, AllByRecursion, position, position_from, All-nil, All-map, All-weaker, position-Some, position_from-zero, IsRouterPlan, IsPrefix, AreDistinct, links_of, same_prefix, changed_plan, Prefix, Route, RouterPlan, Charge, IsWithinSeconds, route_with, rerouted, PortLogs, router_data, StandsFor, IsGuard, IsSound, has_prefix, IsTableOf, AreWays, Ways, Guard, RouteTable}
+use Rattle.tva_router.proofs.Common.{◌≡◌, ℕ, ◌+◌, ◌<◌, ◌≤◌, Bool, true, false, cond, List, [], ◌∷◌, length, get_or, set, map, Some, None, refl, sym, ap, ◌∙◌, subst, zero, suc, arith, Contains, All, AllByRecursion, position, position_from, All-nil, All-map, All-weaker, position-Some, position_from-zero, IsRouterPlan, IsPrefix, AreDistinct, links_of, same_prefix, changed_plan, Prefix, Route, RouterPlan, Charge, IsWithinSeconds, route_with, rerouted, PortLogs, router_data, StandsFor, IsGuard, IsSound, has_prefix, IsTableOf, AreWays, Ways, Guard, RouteTable, rules, nat_tests, common_steps}
 use Rattle.tva_flow.specs.Stands as flows
 use Rattle.tva_port.specs.Stands as port
 use Rattle.tva_router.proofs.Answers.{guard-later}
@@ -42,17 +42,7 @@ restarted_valid plan master k = changed_valid plan master plan.routes k refl k.l
 
 -- what judges packets by a plan looks at no routes
 pub guard_kept : (plan : RouterPlan) (last : ℕ) (g : Guard) (routes : List Route) → IsGuard plan last g → IsGuard (changed_plan plan.master routes plan) last g
-guard_kept plan last g routes k = record {
-  master = k.master;
-  clock = k.clock;
-  key = k.key;
-  slots = k.slots;
-  offset = k.offset;
-  minted = k.minted;
-  charged = k.charged;
-  known = k.known;
-  incoming = k.incoming;
-}
+guard_kept plan last g routes k = grind arith
 
 -- the ways are found as before under another master
 pub ways_kept : (plan : RouterPlan) (master : List ℕ) (w : Ways) → AreWays plan w → AreWays (changed_plan master plan.routes plan) w
@@ -69,18 +59,11 @@ rerouted_all P prefix link routes moves a =
 
 pub rerouted_prefixes : (prefix : Prefix) (link : ℕ) (routes : List Route) → map (λ (r : Route). r.prefix) (rerouted prefix link routes) ≡ map (λ (r : Route). r.prefix) routes
 rerouted_prefixes prefix link [] = refl
-rerouted_prefixes prefix link (r ∷ rs) =
-    let rest : map (λ (z : Route). z.prefix) (rerouted prefix link rs) ≡ map (λ (z : Route). z.prefix) rs = rerouted_prefixes prefix link rs in
-    moved_keeps (λ (x : Route). x.prefix ∷ map (λ (z : Route). z.prefix) (rerouted prefix link rs) ≡ r.prefix ∷ map (λ (z : Route). z.prefix) rs) prefix link r
-    (ap (λ (ps : List Prefix). r.prefix ∷ ps) rest) (ap (λ (ps : List Prefix). r.prefix ∷ ps) rest)
+rerouted_prefixes prefix link (r ∷ rs) = grind (arith, moved_keeps, rerouted_prefixes prefix link rs)
 
 place_kept : (bits address : ℕ) (prefix : Prefix) (link n : ℕ) (routes : List Route) → position_from (has_prefix bits address) n (rerouted prefix link routes) ≡ position_from (has_prefix bits address) n routes
 place_kept bits address prefix link n [] = refl
-place_kept bits address prefix link n (r ∷ rs) =
-    let rest : cond (has_prefix bits address r) (Some n) (position_from (has_prefix bits address) (n + 1) (rerouted prefix link rs)) ≡ cond (has_prefix bits address r) (Some n) (position_from (has_prefix bits address) (n + 1) rs) =
-    ap (λ o. cond (has_prefix bits address r) (Some n) o) (place_kept bits address prefix link (n + 1) rs) in
-    moved_keeps (λ (x : Route). cond (has_prefix bits address x) (Some n) (position_from (has_prefix bits address) (n + 1) (rerouted prefix link rs)) ≡ cond (has_prefix bits address r) (Some n) (position_from (has_prefix bits address) (n + 1) rs))
-    prefix link r rest rest
+place_kept bits address prefix link n (r ∷ rs) = grind (arith, position_from, moved_keeps, place_kept bits address prefix link (n + 1) rs)
 
 -- the table stays
 pub table_kept : (prefix : Prefix) (link : ℕ) (routes : List Route) (table : RouteTable) → IsTableOf routes table → IsTableOf (rerouted prefix link routes) table
@@ -102,11 +85,7 @@ rerouted_valid plan prefix link there k =
 -- ## one write
 
 prefix_is : (a b : Prefix) → same_prefix a b ≡ true → a ≡ b
-prefix_is a b h =
-    let k = both _ _ h in
-    let bits : a.bits ≡ b.bits = same_link a.bits b.bits k.0 in
-    let address : a.address.0 ≡ b.address.0 = same_link a.address.0 b.address.0 k.1 in
-    subst (λ (n : ℕ). a ≡ record { address = record { 0 = n }; bits = b.bits }) address (subst (λ (m : ℕ). a ≡ record { address = a.address; bits = m }) bits refl)
+prefix_is a b h = grind (arith, same_link)
 
 -- no route of another prefix is changed
 untouched : (prefix : Prefix) (link : ℕ) (routes : List Route) → AllByRecursion (λ (r : Route). same_prefix r.prefix prefix ≡ false) routes → rerouted prefix link routes ≡ routes
@@ -135,9 +114,7 @@ set_at prefix link (r ∷ rs) (suc i) d apart within hit before =
 -- the route in the place of the prefix is the one that changes
 pub rerouted_set : (prefix : Prefix) (link : ℕ) (routes : List Route) (i : ℕ) (d : Route) → AreDistinct (map (λ (r : Route). r.prefix) routes) → Some i ≡ position (λ r. same_prefix r.prefix prefix) routes
     → set routes i (record (get_or routes i d) { link = link }) ≡ rerouted prefix link routes
-rerouted_set prefix link routes i d apart found =
-    let k = position-Some (λ (r : Route). same_prefix r.prefix prefix) routes i d (sym found) in
-    set_at prefix link routes i d apart k.0 k.1 k.2
+rerouted_set prefix link routes i d apart found = grind (arith, position-Some, set_at)
 
 none_from : (prefix : Prefix) (n : ℕ) (routes : List Route) → position_from (λ (r : Route). same_prefix r.prefix prefix) n routes ≡ None → AllByRecursion (λ (r : Route). same_prefix r.prefix prefix ≡ false) routes
 none_from prefix n [] e = tt
@@ -156,13 +133,7 @@ rerouted_none prefix link routes none =
 
 pub restarted_sound : (built plan : RouterPlan) (last now : ℕ) (g f : Guard) (w : Ways) (ps : List port.PortData) (master : List ℕ) → last ≤ now → IsSound built plan last g w ps → IsGuard (changed_plan master plan.routes plan) last f
     → IsSound built (changed_plan master plan.routes plan) now f w ps
-restarted_sound built plan last now g f w ps master le s k = record {
-  valid = restarted_valid plan master s.valid;
-  in_force = force_changed plan built master plan.routes s.in_force;
-  guard = guard-later (changed_plan master plan.routes plan) last now f le k;
-  ways = ways_kept plan master w s.ways;
-  ports = ports-later plan.outgoing last now ps le s.ports;
-}
+restarted_sound built plan last now g f w ps master le s k = grind (arith, restarted_valid, force_changed, guard-later, ways_kept, ports-later)
 
 pub restarted_stands : (built plan : RouterPlan) (last now : ℕ) (g f : Guard) (w : Ways) (ps : List port.PortData) (master : List ℕ) (h : List Charge) (logs : PortLogs)
     → StandsFor (router_data built plan last g.minter g.cache ps) h logs → IsSound built (changed_plan master plan.routes plan) now f w ps → flows.StandsFor f.cache []

@@ -69,3 +69,4 @@ pub use Rattle.tva_shim.specs.Shows.{key_of, nonce_in}
 pub use Rattle.tva_shim.specs.declared.kinds.Kind.{Kind}
 pub use Rattle.tva_shim.specs.declared.kinds.Shown.{Shown}
 pub use Rattle.tva_shim.specs.declared.packets.Carried.{Carried}
+pub use Rattle.std.proofs.lemmas.Grind.{common_steps}

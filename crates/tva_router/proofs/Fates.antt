@@ -1,5 +1,5 @@
 -- What every fate tells: the mark, the charge, and what was queued.
-use Rattle.tva_router.proofs.Common.{◌≡◌, ℕ, Bool, true, false, ◌||◌, cond, eqb, leb, List, [], length, slice_get, Option, Some, None, Ok, Err, refl, sym, LinkLimits, Rights, Class, RouterPlan, Shown, Kind, Carried, ShimData, entries_of, with_entry, with_next_pointer, with_fresh, PacketData, packet_length, check_of, Checked, Offered, Verdict, Charge, list_verdict, nonce_verdict, Entry, queued_by, Arrival, Answer, tag_of, second_of, fresh_for, answer_of, answer_to_checked, answer_to_cap, answer_to_shown, answer_to_nonce, judged, marked, judged_by, judged_request, judged_kind, judged_shim, judge, Judged, key_of, nonce_in, PortLogs, Handled, offered, outcome_of, sent, queued, entered_by, entered, goes_on, charged_by, arrival, way_to, stopped, forwarded, handle}
+use Rattle.tva_router.proofs.Common.{◌≡◌, ℕ, Bool, true, false, ◌||◌, cond, eqb, leb, List, [], length, slice_get, Option, Some, None, Ok, Err, refl, sym, LinkLimits, Rights, Class, RouterPlan, Shown, Kind, Carried, ShimData, entries_of, with_entry, with_next_pointer, with_fresh, PacketData, packet_length, check_of, Checked, Offered, Verdict, Charge, list_verdict, nonce_verdict, Entry, queued_by, Arrival, Answer, tag_of, second_of, fresh_for, answer_of, answer_to_checked, answer_to_cap, answer_to_shown, answer_to_nonce, judged, marked, judged_by, judged_request, judged_kind, judged_shim, judge, Judged, key_of, nonce_in, PortLogs, Handled, offered, outcome_of, sent, queued, entered_by, entered, goes_on, charged_by, arrival, way_to, stopped, forwarded, handle, arith, rules, nat_tests, common_steps}
 use Rattle.tva_base.specs.declared.packet.Class.TheVariants as class
 use Rattle.tva_base.specs.declared.packet.Cause.TheVariants as cause
 use Rattle.tva_shim.specs.declared.entries.Entry as entries
@@ -18,17 +18,10 @@ CallsForMark (Ok grant) = Unit {0}
 CallsForMark (Err c) = calls_for_mark (Some c) ≡ true
 
 of_verdict : (v : Verdict) → CallsForMark (answer_of v)
-of_verdict (verdict.Authorised grant) = tt
-of_verdict verdict.Expired = refl
-of_verdict verdict.OverN = refl
-of_verdict verdict.UnknownNonce = refl
-of_verdict verdict.CacheFull = refl
-of_verdict verdict.Superseded = refl
+of_verdict v = grind arith
 
 of_checked : (plan : RouterPlan) (h : List Charge) (a : Arrival) (c : Checked) → CallsForMark (answer_to_checked plan h a c)
-of_checked plan h a (checks.Valid grant) = of_verdict (list_verdict plan.slots h a.time.0 grant a.bytes)
-of_checked plan h a checks.Expired = refl
-of_checked plan h a checks.BadHash = refl
+of_checked plan h a c = grind (arith, of_verdict)
 
 of_cap : (plan : RouterPlan) (h : List Charge) (a : Arrival) (rights : Rights) (cap : Option ℕ) → CallsForMark (answer_to_cap plan h a rights cap)
 of_cap plan h a rights None = refl
@@ -47,34 +40,17 @@ by_answer shim changed (Ok grant) e k = e
 by_answer shim changed (Err c) e k = sym k
 
 by_request : (plan : RouterPlan) (a : Arrival) (shim : ShimData) → shim.demoted ≡ false → is_marked (judged_request plan a shim).carried ≡ calls_for_mark (judged_request plan a shim).cause
-by_request plan a shim e =
-    let entry : entries.Entry = record { tag = tag_of plan a.from; precap = fresh_for plan a } in
-    elim (eqb (length (entries_of shim.kind)) 16) as (λ b. is_marked (cond b (marked shim cause.PathFull) (judged class.Request None None (carried.Shim (with_entry entry shim)))).carried
-    ≡ calls_for_mark (cond b (marked shim cause.PathFull) (judged class.Request None None (carried.Shim (with_entry entry shim)))).cause) [
-      | true ↦ refl
-      | false ↦ e
-    ]
+by_request plan a shim e = grind arith
 
 by_kind : (plan : RouterPlan) (h : List Charge) (a : Arrival) (shim : ShimData) (kind : Kind) → shim.demoted ≡ false → is_marked (judged_kind plan h a shim kind).carried ≡ calls_for_mark (judged_kind plan h a shim kind).cause
-by_kind plan h a shim (kinds.Request entries) e = by_request plan a shim e
-by_kind plan h a shim (kinds.List shown) e = by_answer shim (with_next_pointer shim) (answer_to_shown plan h a shown) e (of_shown plan h a shown)
-by_kind plan h a shim (kinds.Nonce nonce) e = by_answer shim shim (answer_to_nonce plan h a nonce) e (of_nonce plan h a nonce)
-by_kind plan h a shim (kinds.Renewal shown) e =
-    by_answer shim (with_next_pointer (with_fresh (fresh_for plan a) shim)) (answer_to_shown plan h a shown) e (of_shown plan h a shown)
+by_kind plan h a shim kind e = grind (arith, by_request, by_answer, of_shown, of_nonce)
 
 by_shim : (plan : RouterPlan) (h : List Charge) (a : Arrival) (shim : ShimData) → is_marked (judged_shim plan h a shim).carried ≡ (shim.demoted || calls_for_mark (judged_shim plan h a shim).cause)
 unfolding judged_shim
-by_shim plan h a shim =
-    (elim shim.demoted as (λ b. shim.demoted ≡ b → is_marked (cond b (judged class.Legacy None None (carried.Shim shim)) (judged_kind plan h a shim shim.kind)).carried
-    ≡ (b || calls_for_mark (cond b (judged class.Legacy None None (carried.Shim shim)) (judged_kind plan h a shim shim.kind)).cause)) [
-      | true ↦ λ e. e
-      | false ↦ λ e. by_kind plan h a shim shim.kind e
-    ]) refl
+by_shim plan h a shim = grind (arith, by_kind)
 
 by_judge : (plan : RouterPlan) (h : List Charge) (a : Arrival) (carries : Carried) → is_marked (judge plan h a carries).carried ≡ (is_marked carries || calls_for_mark (judge plan h a carries).cause)
-by_judge plan h a carried.Nothing = refl
-by_judge plan h a (carried.Malformed size) = refl
-by_judge plan h a (carried.Shim shim) = by_shim plan h a shim
+by_judge plan h a carries = grind (arith, by_shim)
 
 or_false : (b : Bool) → b ≡ (b || false)
 or_false true = refl
@@ -82,32 +58,20 @@ or_false false = refl
 
 pub mark_told : (plan : RouterPlan) (h : List Charge) (logs : PortLogs) (now : ℕ) (from : Option ℕ) (p : PacketData) → is_marked (handle plan h logs now from p).onward.carried ≡ (is_marked p.carried || calls_for_mark (handle plan h logs now from p).fate.cause)
 unfolding handle
-mark_told plan h logs now from p =
-    elim (leb 32 p.hops) as (λ b. is_marked (cond b (stopped p) (forwarded plan logs now p (judge plan h (arrival now from p) p.carried))).onward.carried
-    ≡ (is_marked p.carried || calls_for_mark (cond b (stopped p) (forwarded plan logs now p (judge plan h (arrival now from p) p.carried))).fate.cause)) [
-      | true ↦ or_false (is_marked p.carried)
-      | false ↦ by_judge plan h (arrival now from p) p.carried
-    ]
+mark_told plan h logs now from p = grind (arith, or_false, by_judge)
 
 -- ## what an arrival adds
 
 pub charges_told : (plan : RouterPlan) (h : List Charge) (logs : PortLogs) (now : ℕ) (from : Option ℕ) (p : PacketData) → (handle plan h logs now from p).charges ≡ charged_by (handle plan h logs now from p).fate.charge now (nonce_in p.carried) (packet_length p)
 unfolding handle
-charges_told plan h logs now from p =
-    elim (leb 32 p.hops) as (λ b. (cond b (stopped p) (forwarded plan logs now p (judge plan h (arrival now from p) p.carried))).charges
-    ≡ charged_by (cond b (stopped p) (forwarded plan logs now p (judge plan h (arrival now from p) p.carried))).fate.charge now (nonce_in p.carried) (packet_length p)) [
-      | true ↦ refl
-      | false ↦ refl
-    ]
+charges_told plan h logs now from p = grind arith
 
 nothing_by : (b : Bool) (xs : List Entry) → cond b xs xs ≡ xs
 nothing_by true xs = refl
 nothing_by false xs = refl
 
 by_offer : (now : ℕ) (class : Class) (p : PacketData) (k link : ℕ) (o : Offered PacketData) → cond (eqb link k) (queued_by o now class (key_of class p) p) [] ≡ entered_by (outcome_of k o) now class p link
-by_offer now class p k link offers.Queued = refl
-by_offer now class p k link (offers.NoQueue q) = nothing_by (eqb link k) []
-by_offer now class p k link (offers.QueueFull q) = nothing_by (eqb link k) []
+by_offer now class p k link o = grind (arith, nothing_by)
 
 by_way : (logs : PortLogs) (now : ℕ) (class : Class) (p : PacketData) (way : Option (ℕ × LinkLimits)) (link : ℕ) → queued logs now class p way link ≡ entered_by (sent logs class p way) now class p link
 by_way logs now class p None link = refl
@@ -115,12 +79,7 @@ by_way logs now class p (Some (k, limits)) link = by_offer now class p k link (o
 
 pub queued_told : (plan : RouterPlan) (h : List Charge) (logs : PortLogs) (now : ℕ) (from : Option ℕ) (p : PacketData) (link : ℕ) → (handle plan h logs now from p).queued link ≡ entered (handle plan h logs now from p).fate now (handle plan h logs now from p).onward link
 unfolding handle
-queued_told plan h logs now from p link =
-    elim (leb 32 p.hops) as (λ b. (cond b (stopped p) (forwarded plan logs now p (judge plan h (arrival now from p) p.carried))).queued link
-    ≡ entered (cond b (stopped p) (forwarded plan logs now p (judge plan h (arrival now from p) p.carried))).fate now (cond b (stopped p) (forwarded plan logs now p (judge plan h (arrival now from p) p.carried))).onward link) [
-      | true ↦ refl
-      | false ↦ by_way logs now (judge plan h (arrival now from p) p.carried).class (goes_on p (judge plan h (arrival now from p) p.carried).carried) (way_to plan p.flow.dst) link
-    ]
+queued_told plan h logs now from p link = grind (arith, by_way)
 
 -- ## logs
 
@@ -129,8 +88,4 @@ module _ {A : Type 0} where
   pub same_over : (f : Handled → A) (plan : RouterPlan) (h : List Charge) (logs others : PortLogs) (now : ℕ) (from : Option ℕ) (p : PacketData)
       → ((j : Judged) → f (forwarded plan logs now p j) ≡ f (forwarded plan others now p j)) → f (handle plan h logs now from p) ≡ f (handle plan h others now from p)
   unfolding handle
-  same_over f plan h logs others now from p e =
-      elim (leb 32 p.hops) as (λ b. f (cond b (stopped p) (forwarded plan logs now p (judge plan h (arrival now from p) p.carried))) ≡ f (cond b (stopped p) (forwarded plan others now p (judge plan h (arrival now from p) p.carried)))) [
-        | true ↦ refl
-        | false ↦ e (judge plan h (arrival now from p) p.carried)
-      ]
+  same_over f plan h logs others now from p e = grind arith

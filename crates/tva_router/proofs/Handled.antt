@@ -1,5 +1,5 @@
 -- What a router stands for after an arrival.
-use Rattle.tva_router.proofs.Common.{◌≡◌, ℕ, ◌≤◌, Bool, true, false, cond, leb, List, [], ◌∷◌, ◌++◌, Option, None, refl, sym, ap, ◌∙◌, subst, arith, append-nil, All, All-nil, All-cons, All-weaker, LinkLimits, Fate, Outcome, RouterPlan, PacketData, packet_length, MinterState, Charge, AreTimely, Guard, Judged, Ways, judge, nonce_in, PortLogs, Handled, arrival, goes_on, handle, stopped, fate_of, forwarded, sent, queued, way_to, charged_by, RouterData, router_data, IsByPlan, StandsFor, StandForLogs, ◌with◌, ArePorts, IsSound, Keeps}
+use Rattle.tva_router.proofs.Common.{◌≡◌, ℕ, ◌≤◌, Bool, true, false, cond, leb, List, [], ◌∷◌, ◌++◌, Option, None, refl, sym, ap, ◌∙◌, subst, arith, append-nil, All, All-nil, All-cons, All-weaker, LinkLimits, Fate, Outcome, RouterPlan, PacketData, packet_length, MinterState, Charge, AreTimely, Guard, Judged, Ways, judge, nonce_in, PortLogs, Handled, arrival, goes_on, handle, stopped, fate_of, forwarded, sent, queued, way_to, charged_by, RouterData, router_data, IsByPlan, StandsFor, StandForLogs, ◌with◌, ArePorts, IsSound, Keeps, rules, nat_tests, common_steps}
 use Rattle.tva_base.specs.declared.packet.Grant.{Grant}
 use Rattle.tva_flow.specs.Stands as flows
 use Rattle.tva_port.specs.Stands as port
@@ -7,46 +7,19 @@ use Rattle.tva_router.proofs.Answers.{guard-later}
 use Rattle.tva_router.proofs.Ports.{ports-later, stands-nothing}
 
 pub sound-later : (built plan : RouterPlan) (last now : ℕ) (g : Guard) (w : Ways) (ps : List port.PortData) → last ≤ now → IsSound built plan last g w ps → IsSound built plan now g w ps
-sound-later built plan last now g w ps le s = record {
-  valid = s.valid;
-  in_force = s.in_force;
-  guard = guard-later plan last now g le s.guard;
-  ways = s.ways;
-  ports = ports-later plan.outgoing last now ps le s.ports;
-}
+sound-later built plan last now g w ps le s = grind (arith, guard-later, ports-later)
 
 all-early : (os : List (ℕ × LinkLimits)) (last : ℕ) (ps : List port.PortData) → ArePorts os last ps → All (λ (p : port.PortData). p.last ≤ last) ps
 all-early [] last [] a = All-nil (λ (p : port.PortData). p.last ≤ last)
-all-early [] last (p ∷ ps) a = absurd a
-all-early (o ∷ os) last [] a = absurd a
 all-early (o ∷ os) last (p ∷ ps) a = All-cons (λ (q : port.PortData). q.last ≤ last) p ps a.1 (all-early os last ps a.2)
+all-early _ last _ a = absurd a
 
 -- a sound router is one of its plan
 pub by-plan : (built plan : RouterPlan) (last : ℕ) (g : Guard) (w : Ways) (ps : List port.PortData) → IsSound built plan last g w ps → IsByPlan (router_data built plan last g.minter g.cache ps)
-by-plan built plan last g w ps s = record {
-  valid = s.valid;
-  in_force = s.in_force;
-  master = s.guard.master;
-  clock = s.guard.clock;
-  key = s.guard.key;
-  slots = s.guard.slots;
-  offset = s.guard.offset;
-  charged = s.guard.charged;
-  ports = all-early plan.outgoing last ps s.ports;
-}
+by-plan built plan last g w ps s = grind (arith, all-early)
 
 pub by-plan-later : (built plan : RouterPlan) (last now : ℕ) (m : MinterState) (c : flows.Cache) (ps : List port.PortData) → last ≤ now → IsByPlan (router_data built plan last m c ps) → IsByPlan (router_data built plan now m c ps)
-by-plan-later built plan last now m c ps le b = record {
-  valid = b.valid;
-  in_force = b.in_force;
-  master = b.master;
-  clock = b.clock;
-  key = b.key;
-  slots = b.slots;
-  offset = b.offset;
-  charged = omega (arith, b.charged, le);
-  ports = All-weaker (λ (p : port.PortData). p.last ≤ last) (λ (p : port.PortData). p.last ≤ now) (λ p k. omega (arith, k, le)) ps b.ports;
-}
+by-plan-later built plan last now m c ps le b = grind arith
 
 pub handle-stopped : (plan : RouterPlan) (h : List Charge) (logs : PortLogs) (now : ℕ) (from : Option ℕ) (p : PacketData) → leb 32 p.hops ≡ true → handle plan h logs now from p ≡ stopped p
 unfolding handle
@@ -61,30 +34,18 @@ handle-forwarded plan h logs now from p free = rw free refl
 pub stands-stopped : (built plan : RouterPlan) (last now : ℕ) (m : MinterState) (c : flows.Cache) (ps : List port.PortData) (h : List Charge) (logs : PortLogs) (from : Option ℕ) (p : PacketData) → leb 32 p.hops ≡ true → last ≤ now
     → StandsFor (router_data built plan last m c ps) h logs
     → StandsFor (router_data built plan now m c ps) (h ++ (handle plan h logs now from p).charges) (logs with (handle plan h logs now from p).queued)
-stands-stopped built plan last now m c ps h logs from p many le s =
-    subst (λ (z : Handled). StandsFor (router_data built plan now m c ps) (h ++ z.charges) (logs with z.queued)) (sym (handle-stopped plan h logs now from p many))
-    (record {
-      plan = by-plan-later built plan last now m c ps le s.plan;
-      charges = subst (λ (z : List Charge). flows.StandsFor c z) (sym (append-nil h)) s.charges;
-      timely = subst (λ (z : List Charge). AreTimely plan.clock_offset z) (sym (append-nil h)) s.timely;
-      links = stands-nothing plan.outgoing ps logs s.links;
-    })
+stands-stopped built plan last now m c ps h logs from p many le s = grind (arith, handle-stopped, by-plan-later, append-nil, stands-nothing)
 
 -- the fate of an arrival that was judged, and whose packet then went there
 pub fate-forwarded : (plan : RouterPlan) (h : List Charge) (logs : PortLogs) (now : ℕ) (from : Option ℕ) (p : PacketData) (j : Judged) (o : Outcome) → leb 32 p.hops ≡ false
     → j ≡ judge plan h (arrival now from p) p.carried → o ≡ sent logs j.class (goes_on p j.carried) (way_to plan p.flow.dst)
     → fate_of j o ≡ (handle plan h logs now from p).fate
-fate-forwarded plan h logs now from p j o few judged went =
-    ap (fate_of j) went
-    ∙ ap (λ (z : Judged). (forwarded plan logs now p z).fate) judged
-    ∙ sym (ap (λ (z : Handled). z.fate) (handle-forwarded plan h logs now from p few))
+fate-forwarded plan h logs now from p j o few judged went = grind (arith, handle-forwarded)
 
 -- and how its packet goes on
 pub onward-forwarded : (plan : RouterPlan) (h : List Charge) (logs : PortLogs) (now : ℕ) (from : Option ℕ) (p : PacketData) (j : Judged) → leb 32 p.hops ≡ false
     → j ≡ judge plan h (arrival now from p) p.carried → goes_on p j.carried ≡ (handle plan h logs now from p).onward
-onward-forwarded plan h logs now from p j few judged =
-    ap (λ (z : Judged). (forwarded plan logs now p z).onward) judged
-    ∙ sym (ap (λ (z : Handled). z.onward) (handle-forwarded plan h logs now from p few))
+onward-forwarded plan h logs now from p j few judged = grind (arith, handle-forwarded)
 
 pub stands-forwarded : (built plan : RouterPlan) (last now : ℕ) (m n : MinterState) (c d : flows.Cache) (ps qs : List port.PortData) (h : List Charge) (logs : PortLogs) (from : Option ℕ) (p : PacketData) (j : Judged) → leb 32 p.hops ≡ false
     → j ≡ judge plan h (arrival now from p) p.carried → StandsFor (router_data built plan last m c ps) h logs
@@ -92,10 +53,7 @@ pub stands-forwarded : (built plan : RouterPlan) (last now : ℕ) (m n : MinterS
     → StandForLogs plan.outgoing qs (logs with queued logs now j.class (goes_on p j.carried) (way_to plan p.flow.dst))
     → IsByPlan (router_data built plan now n d qs)
     → StandsFor (router_data built plan now n d qs) (h ++ (handle plan h logs now from p).charges) (logs with (handle plan h logs now from p).queued)
-stands-forwarded built plan last now m n c d ps qs h logs from p j few judged s keeps links by =
-    subst (λ (z : Handled). StandsFor (router_data built plan now n d qs) (h ++ z.charges) (logs with z.queued))
-    (ap (forwarded plan logs now p) judged ∙ sym (handle-forwarded plan h logs now from p few))
-    (record { plan = by; charges = keeps.stands h s.charges; timely = keeps.timely h s.charges s.timely; links = links })
+stands-forwarded built plan last now m n c d ps qs h logs from p j few judged s keeps links by = grind (arith, handle-forwarded)
 
 uncharged_if : (b : Bool) (plan : RouterPlan) (logs : PortLogs) (now : ℕ) (p : PacketData) (j : Judged) → (cond b (stopped p) (forwarded plan logs now p j)).fate.charge ≡ None → (cond b (stopped p) (forwarded plan logs now p j)).charges ≡ []
 uncharged_if true plan logs now p j e = refl
@@ -108,6 +66,4 @@ uncharged plan h logs now from p e = uncharged_if (leb 32 p.hops) plan logs now 
 -- an arrival without a charge leaves the charges as they were
 pub stands-uncharged : (v : RouterData) (plan : RouterPlan) (h : List Charge) (logs after : PortLogs) (now : ℕ) (from : Option ℕ) (p : PacketData) (fate : Fate) → fate ≡ (handle plan h logs now from p).fate
     → StandsFor v (h ++ (handle plan h logs now from p).charges) after → fate.charge ≡ None → StandsFor v h after
-stands-uncharged v plan h logs after now from p fate told s none =
-    let empty : (handle plan h logs now from p).charges ≡ [] = uncharged plan h logs now from p (ap (λ (z : Fate). z.charge) (sym told) ∙ none) in
-    subst (λ (z : List Charge). StandsFor v z after) (ap (λ (z : List Charge). h ++ z) empty ∙ append-nil h) s
+stands-uncharged v plan h logs after now from p fate told s none = grind (arith, uncharged, append-nil)

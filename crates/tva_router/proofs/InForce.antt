@@ -1,5 +1,5 @@
 -- What the plan in force at a time keeps of the plan.
-use Rattle.tva_router.proofs.Common.{◌≡◌, ℕ, List, [], ◌∷◌, map, refl, ap, Contains, All, All-head, All-tail, All-map, All-weaker, All-filter, IsRouterPlan, IsPrefix, links_of, last_of, has_come, master_at, same_prefix, of_prefix, route_at, in_force, Prefix, Time, Route, RouterPlan}
+use Rattle.tva_router.proofs.Common.{◌≡◌, ℕ, List, [], ◌∷◌, map, refl, ap, Contains, All, All-head, All-tail, All-map, All-weaker, All-filter, IsRouterPlan, IsPrefix, links_of, last_of, has_come, master_at, same_prefix, of_prefix, route_at, in_force, Prefix, Time, Route, RouterPlan, arith, rules, nat_tests, common_steps}
 use Rattle.std.specs.List.{filter}
 use Rattle.tva_router.proofs.Changed.{changed_valid}
 
@@ -38,27 +38,3 @@ force_clock plan now = refl
 pub force_slots : (plan : RouterPlan) (now : ℕ) → (in_force plan now).slots ≡ plan.slots
 unfolding in_force
 force_slots plan now = refl
-
-pub force_edge_tag : (plan : RouterPlan) (now : ℕ) → (in_force plan now).edge_tag ≡ plan.edge_tag
-unfolding in_force
-force_edge_tag plan now = refl
-
-pub force_incoming : (plan : RouterPlan) (now : ℕ) → (in_force plan now).incoming ≡ plan.incoming
-unfolding in_force
-force_incoming plan now = refl
-
-pub force_outgoing : (plan : RouterPlan) (now : ℕ) → (in_force plan now).outgoing ≡ plan.outgoing
-unfolding in_force
-force_outgoing plan now = refl
-
-pub force_restarts : (plan : RouterPlan) (now : ℕ) → (in_force plan now).restarts ≡ plan.restarts
-unfolding in_force
-force_restarts plan now = refl
-
-pub force_reroutes : (plan : RouterPlan) (now : ℕ) → (in_force plan now).reroutes ≡ plan.reroutes
-unfolding in_force
-force_reroutes plan now = refl
-
-pub force_prefixes : (plan : RouterPlan) (now : ℕ) → map (λ (r : Route). r.prefix) (in_force plan now).routes ≡ map (λ (r : Route). r.prefix) plan.routes
-unfolding in_force
-force_prefixes plan now = prefixes_at plan now plan.routes

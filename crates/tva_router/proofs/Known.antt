@@ -1,5 +1,5 @@
 -- What is known of the log of an outgoing link, where a router stands for it.
-use Rattle.tva_router.proofs.Common.{◌≡◌, ℕ, ◌≤◌, max, Bool, true, false, cond, eqb, leb, List, [], ◌∷◌, ◌++◌, Option, Some, None, refl, sym, ap, ◌∙◌, subst, arith, append-nil, All, find, nat_tests, All-head, All-tail, AreLinkLimits, LinkLimits, Class, RouterPlan, PacketData, Charge, Decision, Entry, NoneLater, free_after, queued_by, started_by, MissesNone, NoneDueBefore, IsLegal, PortData, later-weaker, misses_offered, judge, key_of, PortLogs, outgoing_link, offered, queued, goes_on, arrival, way_to, stopped, forwarded, handle, RouterData, StandForLogs, StandsFor, free_in, free_of, started_on, ◌with◌}
+use Rattle.tva_router.proofs.Common.{◌≡◌, ℕ, ◌≤◌, max, Bool, true, false, cond, eqb, leb, List, [], ◌∷◌, ◌++◌, Option, Some, None, refl, sym, ap, ◌∙◌, subst, arith, append-nil, All, find, nat_tests, All-head, All-tail, AreLinkLimits, LinkLimits, Class, RouterPlan, PacketData, Charge, Decision, Entry, NoneLater, free_after, queued_by, started_by, MissesNone, NoneDueBefore, IsLegal, PortData, later-weaker, misses_offered, judge, key_of, PortLogs, outgoing_link, offered, queued, goes_on, arrival, way_to, stopped, forwarded, handle, RouterData, StandForLogs, StandsFor, free_in, free_of, started_on, ◌with◌, rules, common_steps}
 use Rattle.tva_port.specs.Stands as port
 
 -- the port of a link: it has the link's limits, and stands for the link's log

@@ -1,5 +1,5 @@
 -- Places in lists, and the place of a link in a list of links.
-use Rattle.tva_router.proofs.Common.{◌≡◌, ℕ, Bool, ◌<◌, ◌≤◌, true, false, List, [], ◌∷◌, length, get_or, slice_get, Some, None, eqb, ap, ◌∙◌, zero, suc, arith, find, position, position_or_len, position-Some}
+use Rattle.tva_router.proofs.Common.{◌≡◌, ℕ, Bool, ◌<◌, ◌≤◌, true, false, List, [], ◌∷◌, length, get_or, slice_get, Some, None, eqb, ap, ◌∙◌, zero, suc, arith, find, position, position_or_len, position-Some, rules, nat_tests}
 use Rattle.std.proofs.lemmas.Grind.{common_steps}
 use Rattle.std.proofs.lemmas.List.Folds.{find_at}
 use Rattle.std.proofs.lemmas.Option.{slice_get-get_or, slice_get_past}
@@ -37,12 +37,8 @@ module _ {X : Type 0} where
 module _ {X : Type 0} (p : X → Bool) where
   -- what a test finds stands in its first place
   pub find_there : (xs : List X) (i : ℕ) (d : X) → position p xs ≡ Some i → find p xs ≡ Some (get_or xs i d)
-  find_there xs i d h =
-      let at : position_or_len p xs ≡ i = grind (arith, common_steps) in
-      find_at p xs ∙ ap (slice_get xs) at ∙ slice_get-get_or xs i d (position-Some p xs i d h).0
+  find_there xs i d h = grind (arith, position_or_len, find_at, slice_get, slice_get-get_or, position-Some)
 
   -- or nowhere
   pub find_nowhere : (xs : List X) → position p xs ≡ None → find p xs ≡ None
-  find_nowhere xs h =
-      let past : length xs ≤ position_or_len p xs = grind (arith, common_steps) in
-      find_at p xs ∙ slice_get_past xs (position_or_len p xs) past
+  find_nowhere xs h = grind (arith, position_or_len, find_at, slice_get_past)

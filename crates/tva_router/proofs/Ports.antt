@@ -1,20 +1,18 @@
 -- The ports of a router by its outgoing links.
-use Rattle.tva_router.proofs.Common.{◌≡◌, ℕ, ◌<◌, ◌≤◌, true, false, List, [], ◌∷◌, ◌++◌, ◌+◌, length, take, get_or, set, Option, eqb, cond, refl, sym, ap, ◌∙◌, subst, zero, suc, arith, append-nil, Contains, position, take_more, nat_tests, AreDistinct, links_of, LinkLimits, Entry, PortData, PortLogs, StandForLogs, free_in, ◌with◌, ArePorts}
+use Rattle.tva_router.proofs.Common.{◌≡◌, ℕ, ◌<◌, ◌≤◌, true, false, List, [], ◌∷◌, ◌++◌, ◌+◌, length, take, get_or, set, Option, eqb, cond, refl, sym, ap, ◌∙◌, subst, zero, suc, arith, append-nil, Contains, position, take_more, nat_tests, AreDistinct, links_of, LinkLimits, Entry, PortData, PortLogs, StandForLogs, free_in, ◌with◌, ArePorts, rules, common_steps}
 use Rattle.tva_port.specs.Stands.{StandsFor}
 use Rattle.tva_router.proofs.Links.{IsAt}
 
 -- as many as links
 pub ports-length : (os : List (ℕ × LinkLimits)) (last : ℕ) (ps : List PortData) → ArePorts os last ps → length ps ≡ length os
 ports-length [] last [] a = refl
-ports-length [] last (p ∷ ps) a = absurd a
-ports-length (o ∷ os) last [] a = absurd a
 ports-length (o ∷ os) last (p ∷ ps) a = ap suc (ports-length os last ps a.2)
+ports-length _ last _ a = absurd a
 
 pub ports-later : (os : List (ℕ × LinkLimits)) (last now : ℕ) (ps : List PortData) → last ≤ now → ArePorts os last ps → ArePorts os now ps
 ports-later [] last now [] le a = tt
-ports-later [] last now (p ∷ ps) le a = absurd a
-ports-later (o ∷ os) last now [] le a = absurd a
 ports-later (o ∷ os) last now (p ∷ ps) le a = (a.0, omega (arith, le, a.1), ports-later os last now ps le a.2)
+ports-later _ last now _ le a = absurd a
 
 -- the port in a place
 pub port-get : (os : List (ℕ × LinkLimits)) (last : ℕ) (ps : List PortData) (i : ℕ) (p : PortData) (d : ℕ × LinkLimits) → ArePorts os last ps → i < length os
@@ -42,10 +40,7 @@ stands-get (o ∷ os) (y ∷ ys) logs (suc i) link p s at n here = stands-get os
 
 -- nothing was added
 pub stands-nothing : (os : List (ℕ × LinkLimits)) (ps : List PortData) (logs : PortLogs) → StandForLogs os ps logs → StandForLogs os ps (logs with λ k. [])
-stands-nothing [] ps logs s = tt
-stands-nothing (o ∷ os) [] logs s = absurd s
-stands-nothing (o ∷ os) (p ∷ ps) logs s =
-    (s.0, subst (λ (z : List Entry). StandsFor p z) (sym (append-nil (logs o.0))) s.1, stands-nothing os ps logs s.2)
+stands-nothing os ps logs s = grind (arith, append-nil)
 
 -- none of the links is that one
 abbrev pub AreOthers : List (ℕ × LinkLimits) → ℕ → Type 0
@@ -108,15 +103,13 @@ place-in os slice link r x same looked is = subst (λ (z : List (ℕ × LinkLimi
 
 ports-push : (os : List (ℕ × LinkLimits)) (last : ℕ) (ps : List PortData) (o : ℕ × LinkLimits) (p : PortData) → ArePorts os last ps → p.limits ≡ o.1 → p.last ≤ last → ArePorts (os ++ o ∷ []) last (ps ++ p ∷ [])
 ports-push [] last [] o p a l k = (l, k, tt)
-ports-push [] last (y ∷ ys) o p a l k = absurd a
-ports-push (x ∷ xs) last [] o p a l k = absurd a
 ports-push (x ∷ xs) last (y ∷ ys) o p a l k = (a.0, a.1, ports-push xs last ys o p a.2 l k)
+ports-push _ last _ o p a l k = absurd a
 
 stands-push : (os : List (ℕ × LinkLimits)) (last : ℕ) (ps : List PortData) (logs : PortLogs) (o : ℕ × LinkLimits) (p : PortData) → ArePorts os last ps → StandForLogs os ps logs → p.limits ≡ o.1 → StandsFor p (logs o.0) → StandForLogs (os ++ o ∷ []) (ps ++ p ∷ []) logs
 stands-push [] last [] logs o p a s l k = (l, k, tt)
-stands-push [] last (y ∷ ys) logs o p a s l k = absurd a
-stands-push (x ∷ xs) last [] logs o p a s l k = absurd a
 stands-push (x ∷ xs) last (y ∷ ys) logs o p a s l k = (s.0, s.1, stands-push xs last ys logs o p a.2 s.2 l k)
+stands-push _ last _ logs o p a s l k = absurd a
 
 -- one port more
 pub ports-more : (os : List (ℕ × LinkLimits)) (i : ℕ) (d : ℕ × LinkLimits) (ps : List PortData) (p : PortData) → i < length os → ArePorts (take i os) 0 ps × StandForLogs (take i os) ps (λ link. [])

@@ -1,5 +1,5 @@
 -- A packet that is queued at the port of its link.
-use Rattle.tva_router.proofs.Common.{◌≡◌, ℕ, List, [], ◌++◌, get_or, set, Option, Some, eqb, cond, refl, sym, ap, ◌∙◌, subst, find, position, AreDistinct, links_of, LinkLimits, Class, PacketData, Offered, Entry, waiting_after, queue_answer, queued_by, PortData, key_of, AreOneAnswer, answer_by, kept_by, PortLogs, offered, outcome_of, sent, queued, kept_after, StandForLogs, ◌with◌, ArePorts}
+use Rattle.tva_router.proofs.Common.{◌≡◌, ℕ, List, [], ◌++◌, get_or, set, Option, Some, eqb, cond, refl, sym, ap, ◌∙◌, subst, find, position, AreDistinct, links_of, LinkLimits, Class, PacketData, Offered, Entry, waiting_after, queue_answer, queued_by, PortData, key_of, AreOneAnswer, answer_by, kept_by, PortLogs, offered, outcome_of, sent, queued, kept_after, StandForLogs, ◌with◌, ArePorts, arith, rules, nat_tests, common_steps}
 use Rattle.tva_port.specs.Stands.{StandsFor}
 use Rattle.tva_port.specs.declared.hand.Answer.{Answer}
 use Rattle.tva_port.specs.declared.hand.Answer.TheVariants as answers
@@ -30,10 +30,7 @@ sent-at logs class packet link limits way r f e = ap (outcome_of link) e ∙ sym
 queued-at : (logs : PortLogs) (now : ℕ) (class : Class) (key : ℕ) (packet : PacketData) (link : ℕ) (limits : LinkLimits) (way : Option (ℕ × LinkLimits)) (r : Offered PacketData)
     → way ≡ Some (link, limits) → r ≡ offered limits (logs link) class packet → key ≡ key_of class packet
     → queued logs now class packet way ≡ (λ k. cond (eqb k link) (queued_by r now class key packet) [])
-queued-at logs now class key packet link limits way r f e same =
-    ap (queued logs now class packet) f
-    ∙ ap (λ (z : Offered PacketData). λ (k : ℕ). cond (eqb k link) (queued_by z now class (key_of class packet) packet) []) (sym e)
-    ∙ ap (λ (z : ℕ). λ (k : ℕ). cond (eqb k link) (queued_by r now class z packet) []) (sym same)
+queued-at logs now class key packet link limits way r f e same = grind arith
 
 -- the ports then stand for the logs with what was queued
 pub stands-queued : (os : List (ℕ × LinkLimits)) (last : ℕ) (ps : List PortData) (logs : PortLogs) (i link : ℕ) (d : ℕ × LinkLimits) (p new : PortData) (now : ℕ) (class : Class) (key : ℕ) (packet : PacketData) (r : Offered PacketData)
@@ -53,11 +50,7 @@ stands-queued os last ps logs i link d p new now class key packet r apart h a s 
 -- ## what the hand holds then
 
 pub kept_agrees : (answer : Answer) (p : PacketData) → AreOneAnswer answer (kept_by answer p)
-kept_agrees answers.Queued p = refl
-kept_agrees answers.NoQueue p = refl
-kept_agrees answers.QueueFull p = refl
+kept_agrees answer p = grind arith
 
 pub kept_by_outcome : (link : ℕ) (answer : Answer) (p : PacketData) → kept_by answer p ≡ kept_after (outcome_of link (answer_by answer (kept_by answer p))) p
-kept_by_outcome link answers.Queued p = refl
-kept_by_outcome link answers.NoQueue p = refl
-kept_by_outcome link answers.QueueFull p = refl
+kept_by_outcome link answer p = grind arith

@@ -1,5 +1,5 @@
 -- What a router judges depends on no routes.
-use Rattle.tva_router.proofs.Common.{◌≡◌, ℕ, true, false, cond, eqb, leb, List, length, slice_get, Option, Some, None, refl, sym, ap, ◌∙◌, Rights, Route, RouterPlan, changed_plan, Shown, Kind, Carried, ShimData, entries_of, with_entry, with_next_pointer, with_fresh, PacketData, check_of, Checked, Charge, Arrival, Judged, Answer, tag_of, second_of, fresh_for, answer_to_checked, answer_to_cap, answer_to_shown, answer_to_nonce, judged, marked, judged_by, judged_request, judged_kind, judged_shim, judge, PortLogs, Handled, arrival, stopped, forwarded, with_routes, handle, RouterData}
+use Rattle.tva_router.proofs.Common.{◌≡◌, ℕ, true, false, cond, eqb, leb, List, length, slice_get, Option, Some, None, refl, sym, ap, ◌∙◌, Rights, Route, RouterPlan, changed_plan, Shown, Kind, Carried, ShimData, entries_of, with_entry, with_next_pointer, with_fresh, PacketData, check_of, Checked, Charge, Arrival, Judged, Answer, tag_of, second_of, fresh_for, answer_to_checked, answer_to_cap, answer_to_shown, answer_to_nonce, judged, marked, judged_by, judged_request, judged_kind, judged_shim, judge, PortLogs, Handled, arrival, stopped, forwarded, with_routes, handle, RouterData, arith, rules, nat_tests, common_steps}
 use Rattle.tva_base.specs.declared.packet.Class.TheVariants as class
 use Rattle.tva_base.specs.declared.packet.Cause.TheVariants as cause
 use Rattle.tva_shim.specs.declared.kinds.Kind.TheVariants as kinds
@@ -8,13 +8,10 @@ use Rattle.tva_caps.specs.declared.minters.Checked.TheVariants as checks
 
 module _ (plan : RouterPlan) (routes : List Route) (h : List Charge) (a : Arrival) where
   tag_same : (from : Option ℕ) → tag_of (with_routes routes plan) from ≡ tag_of plan from
-  tag_same None = refl
-  tag_same (Some link) = refl
+  tag_same _ = refl
 
   checked_same : (c : Checked) → answer_to_checked (with_routes routes plan) h a c ≡ answer_to_checked plan h a c
-  checked_same (checks.Valid grant) = refl
-  checked_same checks.Expired = refl
-  checked_same checks.BadHash = refl
+  checked_same _ = refl
 
   cap_same : (rights : Rights) (cap : Option ℕ) → answer_to_cap (with_routes routes plan) h a rights cap ≡ answer_to_cap plan h a rights cap
   cap_same rights None = refl
@@ -29,25 +26,17 @@ module _ (plan : RouterPlan) (routes : List Route) (h : List Charge) (a : Arriva
   nonce_same nonce = refl
 
   request_same : (shim : ShimData) → judged_request (with_routes routes plan) a shim ≡ judged_request plan a shim
-  request_same shim =
-      ap (λ (tag : ℕ). cond (eqb (length (entries_of shim.kind)) 16) (marked shim cause.PathFull)
-      (judged class.Request None None (carried.Shim (with_entry (record { tag = tag; precap = fresh_for plan a }) shim)))) (tag_same a.from)
+  request_same shim = grind (arith, tag_same)
 
   kind_same : (shim : ShimData) (kind : Kind) → judged_kind (with_routes routes plan) h a shim kind ≡ judged_kind plan h a shim kind
-  kind_same shim (kinds.Request entries) = request_same shim
-  kind_same shim (kinds.List shown) = ap (λ (x : Answer). judged_by shim (with_next_pointer shim) x) (shown_same shown)
-  kind_same shim (kinds.Nonce nonce) = ap (λ (x : Answer). judged_by shim shim x) (nonce_same nonce)
-  kind_same shim (kinds.Renewal shown) =
-      ap (λ (x : Answer). judged_by shim (with_next_pointer (with_fresh (fresh_for plan a) shim)) x) (shown_same shown)
+  kind_same shim kind = grind (arith, request_same, shown_same, nonce_same)
 
   shim_same : (shim : ShimData) → judged_shim (with_routes routes plan) h a shim ≡ judged_shim plan h a shim
   unfolding judged_shim
   shim_same shim = ap (λ (j : Judged). cond shim.demoted (judged class.Legacy None None (carried.Shim shim)) j) (kind_same shim shim.kind)
 
   judge_same : (carries : Carried) → judge (with_routes routes plan) h a carries ≡ judge plan h a carries
-  judge_same carried.Nothing = refl
-  judge_same (carried.Malformed size) = refl
-  judge_same (carried.Shim shim) = shim_same shim
+  judge_same carries = grind (arith, shim_same)
 
 module _ {A : Type 0} where
   -- what is the same of packets that went on is the same of all
@@ -55,14 +44,7 @@ module _ {A : Type 0} where
       → ((j : Judged) → f (forwarded (with_routes routes plan) logs now p j) ≡ f (forwarded plan others now p j))
       → f (handle (with_routes routes plan) h logs now from p) ≡ f (handle plan h others now from p)
   unfolding handle
-  same_by_routes f plan routes h logs others now from p e =
-      elim (leb 32 p.hops) as (λ b. f (cond b (stopped p) (forwarded (with_routes routes plan) logs now p (judge (with_routes routes plan) h (arrival now from p) p.carried)))
-      ≡ f (cond b (stopped p) (forwarded plan others now p (judge plan h (arrival now from p) p.carried)))) [
-        | true ↦ refl
-        | false ↦
-            ap (λ (j : Judged). f (forwarded (with_routes routes plan) logs now p j)) (judge_same plan routes h (arrival now from p) p.carried)
-            ∙ e (judge plan h (arrival now from p) p.carried)
-      ]
+  same_by_routes f plan routes h logs others now from p e = grind (arith, judge_same)
 
   -- two routers of one plan under one master differ by their routes alone
   pub same_by_masters : (f : Handled → A) (v w : RouterData) (h : List Charge) (logs others : PortLogs) (now : ℕ) (from : Option ℕ) (p : PacketData)

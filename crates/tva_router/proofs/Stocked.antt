@@ -1,5 +1,5 @@
 -- What waits for a router's links, over their logs, and memory for it where packets come by value.
-use Rattle.tva_router.proofs.Common.{◌≡◌, ◌≢◌, ℕ, ◌+◌, ◌≤◌, true, false, cond, leb, List, [], ◌∷◌, ◌++◌, length, take, get_or, ◌<◌, Option, Some, None, eqb, refl, sym, ap, ◌∙◌, subst, arith, append-nil, All, find, option_and_then, Contains, take_more, All-head, All-tail, AreDistinct, AreLinkLimits, links_of, LinkLimits, Class, RouterPlan, PacketData, key_of, Charge, Offered, Decision, decision, started_by, IsLegal, Entry, PortData, waiting_after, queued_by, waits_none, waits_more, waits_less, waits_few, judge, link_to, PortLogs, outgoing_link, offered, outcome_of, sent, queued, goes_on, arrival, way_to, stopped, forwarded, handle, kept_after, RouterData, StandForLogs, StandsFor, started_on, ◌with◌, waiting_in, places_on, IsStocked}
+use Rattle.tva_router.proofs.Common.{◌≡◌, ◌≢◌, ℕ, ◌+◌, ◌≤◌, true, false, cond, leb, List, [], ◌∷◌, ◌++◌, length, take, get_or, ◌<◌, Option, Some, None, eqb, refl, sym, ap, ◌∙◌, subst, arith, append-nil, All, find, option_and_then, Contains, take_more, All-head, All-tail, AreDistinct, AreLinkLimits, links_of, LinkLimits, Class, RouterPlan, PacketData, key_of, Charge, Offered, Decision, decision, started_by, IsLegal, Entry, PortData, waiting_after, queued_by, waits_none, waits_more, waits_less, waits_few, judge, link_to, PortLogs, outgoing_link, offered, outcome_of, sent, queued, goes_on, arrival, way_to, stopped, forwarded, handle, kept_after, RouterData, StandForLogs, StandsFor, started_on, ◌with◌, waiting_in, places_on, IsStocked, rules, nat_tests, common_steps}
 use Rattle.tva_drr.specs.declared.offered.Offered.TheVariants as offers
 use Rattle.tva_port.specs.Counts.{waiting_count, queued_count, started_count, hand_count, places_in, StockData}
 use Rattle.tva_router.proofs.Known.{known}
@@ -25,9 +25,7 @@ few (o ∷ os) (p ∷ ps) logs a s =
 
 -- nothing was added
 waits_same : (os : List (ℕ × LinkLimits)) (logs : PortLogs) → waiting_in os (logs with λ k. []) ≡ waiting_in os logs
-waits_same [] logs = refl
-waits_same (o ∷ os) logs =
-    omega (arith, ap (λ (es : List Entry). waiting_count (waiting_after o.1 es)) (append-nil (logs o.0)), waits_same os logs)
+waits_same os logs = grind (arith, append-nil)
 
 -- nothing was added to a log, unless the link is that one
 waits_other : (o : ℕ × LinkLimits) (logs : PortLogs) (link : ℕ) (es : List Entry) → eqb o.0 link ≡ false
@@ -98,9 +96,7 @@ link_found (Some (k, limits)) os link f n =
 -- ## an arrival and a decision
 
 kept_count : (link : ℕ) (a : Offered PacketData) (p : PacketData) → hand_count (kept_after (outcome_of link a) p) + queued_count a ≡ 1
-kept_count link offers.Queued p = refl
-kept_count link (offers.NoQueue q) p = refl
-kept_count link (offers.QueueFull q) p = refl
+kept_count link a p = grind arith
 
 sent_count : (v : RouterData) (h : List Charge) (logs : PortLogs) (now : ℕ) (class : Class) (p : PacketData) (way : Option (ℕ × LinkLimits)) → StandsFor v h logs → v.last ≤ now
     → IsWay v.plan.outgoing way

@@ -1,5 +1,5 @@
 -- The tables of routes and of links.
-use Rattle.tva_router.proofs.Common.{◌≡◌, ℕ, ◌+◌, ◌-◌, ◌<◌, ◌≤◌, Bool, true, false, ◌&&◌, cond, eqb, List, [], ◌∷◌, length, take, drop, get_or, set, Option, Some, None, IfSome, is_some, nat_eq, refl, sym, ap, ◌∙◌, subst, inl, inr, zero, suc, arith, All, AllByRecursion, find, position, position_from, option_map, get, eqb_tells, nat_tests, drop_more, get_or-set_same, All-more, All-weaker, recursion_from_All, position-Some, position_from-zero, holds, kept, IsPrefix, Address, Route, longest, leads, link_to, Places, ArePlacesFrom, PrefixPlaces, has_prefix, AreRoutePlacesFrom, AreMarked, IsTableOf, RouteTable}
+use Rattle.tva_router.proofs.Common.{◌≡◌, ℕ, ◌+◌, ◌-◌, ◌<◌, ◌≤◌, Bool, true, false, ◌&&◌, cond, eqb, List, [], ◌∷◌, length, take, drop, get_or, set, Option, Some, None, IfSome, is_some, nat_eq, refl, sym, ap, ◌∙◌, subst, inl, inr, zero, suc, arith, All, AllByRecursion, find, position, position_from, option_map, get, eqb_tells, nat_tests, drop_more, get_or-set_same, All-more, All-weaker, recursion_from_All, position-Some, position_from-zero, holds, kept, IsPrefix, Address, Route, longest, leads, link_to, Places, ArePlacesFrom, PrefixPlaces, has_prefix, AreRoutePlacesFrom, AreMarked, IsTableOf, RouteTable, rules, common_steps}
 use Rattle.tva_router.specs.Tables.{same_prefix}
 use Rattle.tva_router.proofs.Links.{is_at, at_within, find_there, find_nowhere}
 use Rattle.tva_router.proofs.Ports.{same_link}
@@ -14,13 +14,7 @@ drop_before xs n m d within next = drop_more xs m d (omega (arith, within, next)
 -- one link more
 pub places-before : {X : Type 0} (links : List (ℕ × X)) (n m : ℕ) (d : ℕ × X) (old new : Places) → n ≤ length links → m + 1 ≡ n → ArePlacesFrom n (drop n links) old
     → ((q : ℕ) → get nat_eq new q ≡ cond (eqb (get_or links m d).0 q) (Some m) (get nat_eq old q)) → ArePlacesFrom m (drop m links) new
-places-before {X} links n m d old new within next is updates =
-    λ link.
-    let o : ℕ × X = get_or links m d in
-    updates link
-    ∙ ap (λ (p : Option ℕ). cond (eqb o.0 link) (Some m) p) (is link)
-    ∙ ap (λ (k : ℕ). cond (eqb o.0 link) (Some m) (position_from (λ (z : ℕ × X). eqb z.0 link) k (drop n links))) (sym next)
-    ∙ ap (λ (zs : List (ℕ × X)). position_from (λ (y : ℕ × X). eqb y.0 link) m zs) (sym (drop_before links n m d within next))
+places-before {X} links n m d old new within next is updates = grind (arith, position_from, drop_before)
 
 -- a place is one of the list
 pub place_within : {X : Type 0} (links : List (ℕ × X)) (link : ℕ) (o : Option ℕ) → o ≡ position (λ z. eqb z.0 link) links → IfSome o (λ at. at < length links)
@@ -31,22 +25,14 @@ place_within links link (Some at) e = at_within links at link (is_at links at li
 pub route_places-before : (routes : List Route) (n m : ℕ) (d : Route) (old new : PrefixPlaces) → n ≤ length routes → m + 1 ≡ n → AreRoutePlacesFrom n (drop n routes) old
     → ((q : ℕ × ℕ) → get same_prefix new q ≡ cond (same_prefix ((get_or routes m d).prefix.bits, (get_or routes m d).prefix.address.0) q) (Some m) (get same_prefix old q))
     → AreRoutePlacesFrom m (drop m routes) new
-route_places-before routes n m d old new within next is updates =
-    λ bits address.
-    let r : Route = get_or routes m d in
-    updates (bits, address)
-    ∙ ap (λ (o : Option ℕ). cond (has_prefix bits address r) (Some m) o) (is bits address)
-    ∙ ap (λ (k : ℕ). cond (has_prefix bits address r) (Some m) (position_from (has_prefix bits address) k (drop n routes))) (sym next)
-    ∙ ap (λ (rs : List Route). position_from (has_prefix bits address) m rs) (sym (drop_before routes n m d within next))
+route_places-before routes n m d old new within next is updates = grind (arith, position_from, drop_before)
 
 -- ## which lengths there are
 
 marked_kept : (marks : List Bool) (i k : ℕ) → get_or marks k false ≡ true → get_or (set marks i true) k false ≡ true
-marked_kept [] i k h = h
 marked_kept (m ∷ ms) zero zero h = refl
-marked_kept (m ∷ ms) zero (suc k) h = h
-marked_kept (m ∷ ms) (suc i) zero h = h
 marked_kept (m ∷ ms) (suc i) (suc k) h = marked_kept ms i k h
+marked_kept _ _ _ h = h
 
 pub marked-more : (routes : List Route) (i : ℕ) (d : Route) (marks : List Bool) → i < length routes → (get_or routes i d).prefix.bits < length marks → AreMarked (take i routes) marks
     → AreMarked (take (i + 1) routes) (set marks (get_or routes i d).prefix.bits true)
@@ -75,18 +61,11 @@ flipped a b = grind (arith, nat_tests)
 
 -- a prefix of that length that the destination begins with is that of its first bits
 has_leads : (bits : ℕ) (dst : Address) (r : Route) → has_prefix bits (kept dst bits).0 r ≡ leads bits dst r
-has_leads bits dst r =
-    elim (eqb_tells r.prefix.bits bits) [
-      | inl h ↦ subst (λ (b : Bool). b && eqb r.prefix.address.0 (kept dst bits).0 ≡ holds r.prefix dst && b) (sym h.0)
-          (flipped r.prefix.address.0 (kept dst bits).0 ∙ ap (λ (n : ℕ). eqb (kept dst n).0 r.prefix.address.0) (sym h.1) ∙ sym (and_true (holds r.prefix dst)))
-      | inr h ↦ subst (λ (b : Bool). b && eqb r.prefix.address.0 (kept dst bits).0 ≡ holds r.prefix dst && b) (sym h.0) (sym (and_false (holds r.prefix dst)))
-    ]
+has_leads bits dst r = grind (arith, eqb_tells, flipped, and_true, and_false)
 
 -- tests that agree find the same place
 place_same : (p q : Route → Bool) (n : ℕ) (routes : List Route) → ((r : Route) → p r ≡ q r) → position_from p n routes ≡ position_from q n routes
-place_same p q n [] same = refl
-place_same p q n (r ∷ rs) same =
-    ap (λ (b : Bool). cond b (Some n) (position_from p (n + 1) rs)) (same r) ∙ ap (λ (o : Option ℕ). cond (q r) (Some n) o) (place_same p q (n + 1) rs same)
+place_same p q n routes same = grind (arith, position_from)
 
 place_none : (p : Route → Bool) (n : ℕ) (routes : List Route) → AllByRecursion (λ r. p r ≡ false) routes → position_from p n routes ≡ None
 place_none p n [] a = refl
@@ -102,30 +81,18 @@ all_none p routes a = find_none p routes (recursion_from_All (λ (r : Route). p 
 -- the table has the place
 pub place_looked : (routes : List Route) (table : RouteTable) (dst : Address) (bits : ℕ) → IsTableOf routes table
     → get same_prefix table.places (bits, (kept dst bits).0) ≡ position (leads bits dst) routes
-place_looked routes table dst bits t =
-    t.places bits (kept dst bits).0
-    ∙ place_same (has_prefix bits (kept dst bits).0) (leads bits dst) 0 routes (has_leads bits dst)
-    ∙ sym (position_from-zero (leads bits dst) routes)
+place_looked routes table dst bits t = grind (arith, place_same, has_leads, position_from-zero)
 
 unmarked_leads : (marks : List Bool) (dst : Address) (bits : ℕ) (r : Route) → get_or marks bits false ≡ false → get_or marks r.prefix.bits false ≡ true → leads bits dst r ≡ false
-unmarked_leads marks dst bits r none some =
-    elim (eqb_tells r.prefix.bits bits) [
-      | inl h ↦ let here : get_or marks bits false ≡ true = subst (λ (n : ℕ). get_or marks n false ≡ true) h.1 some in absurd (cc)
-      | inr h ↦ subst (λ (b : Bool). holds r.prefix dst && b ≡ false) (sym h.0) (and_false (holds r.prefix dst))
-    ]
+unmarked_leads marks dst bits r none some = grind (arith, eqb_tells, and_false)
 
 -- no prefix has that length
 pub place_unmarked : (routes : List Route) (marks : List Bool) (dst : Address) (bits : ℕ) → AreMarked routes marks → get_or marks bits false ≡ false → None ≡ position (leads bits dst) routes
-place_unmarked routes marks dst bits a none =
-    let absent = All-weaker (λ (r : Route). get_or marks r.prefix.bits false ≡ true) (λ (r : Route). leads bits dst r ≡ false) (λ r some. unmarked_leads marks dst bits r none some) routes a in
-    sym (position_from-zero (leads bits dst) routes ∙ place_none (leads bits dst) 0 routes (recursion_from_All (λ (r : Route). leads bits dst r ≡ false) routes absent))
+place_unmarked routes marks dst bits a none = grind (arith, unmarked_leads, position_from-zero, place_none, recursion_from_All)
 
 -- a place is one of the list
 pub route_within : (p : Route → Bool) (routes : List Route) (o : Option ℕ) → o ≡ position p routes → IfSome o (λ at. at < length routes)
-route_within p routes None e = tt
-route_within p routes (Some at) e =
-    let none : Route = record { prefix = record { address = record { 0 = 0 }; bits = 0 }; link = 0 } in
-    (position-Some p routes at none (sym e)).0
+route_within p routes o e = grind (arith, position-Some)
 
 -- the route there is the one that is found, or none is
 pub link_there : (p : Route → Bool) (routes : List Route) (at : ℕ) (d : Route) → Some at ≡ position p routes → Some (get_or routes at d).link ≡ option_map (λ (r : Route). r.link) (find p routes)
@@ -148,18 +115,12 @@ none_some None e = refl
 none_some (Some n) e = absurd (cc)
 
 shorter_one : (dst : Address) (shorter : ℕ) (r : Route) → shorter ≤ 32 → IsShorter dst shorter r → leads (32 - shorter) dst r ≡ false → IsShorter dst (shorter + 1) r
-shorter_one dst shorter r le s none h =
-    elim (eqb_tells r.prefix.bits (32 - shorter)) [
-      | inl k ↦ let leads_there : leads (32 - shorter) dst r ≡ true = leads_is (32 - shorter) dst r h k.1 in absurd (cc)
-      | inr k ↦ omega (arith, le, s h, k.1)
-    ]
+shorter_one dst shorter r le s none h = grind (arith, eqb_tells, leads_is)
 
 -- nothing was found at this length
 pub shorter-more : (routes : List Route) (dst : Address) (shorter : ℕ) (o : Option ℕ) → shorter ≤ 32 → o ≡ option_map (λ r. r.link) (find (leads (32 - shorter) dst) routes) → is_some o ≡ false
     → All (IsShorter dst shorter) routes → All (IsShorter dst (shorter + 1)) routes
-shorter-more routes dst shorter o le looked none a =
-    let absent = none_is (leads (32 - shorter) dst) routes (link_none (find (leads (32 - shorter) dst) routes) (sym looked ∙ none_some o none)) in
-    λ k d within. shorter_one dst shorter (get_or routes k d) le (a k d within) (absent k d within)
+shorter-more routes dst shorter o le looked none a = grind (arith, none_is, link_none, none_some, shorter_one)
 
 longest_found : (routes : List Route) (dst : Address) (bits : ℕ) (r : Route) → find (leads bits dst) routes ≡ Some r → All (Within dst bits) routes → longest routes dst ≡ bits
 longest_found routes dst bits r e a =
@@ -187,13 +148,9 @@ found_longest routes dst shorter o le looked some a =
     looked ∙ ap (λ (n : ℕ). option_map (λ (r : Route). r.link) (find (leads n dst) routes)) (sym bits)
 
 holds_none : (dst : Address) (shorter : ℕ) (r : Route) → 33 ≤ shorter → IsShorter dst shorter r → (n : ℕ) → leads n dst r ≡ false
-holds_none dst shorter r ge s n =
-    let no : holds r.prefix dst ≡ false = not_true (holds r.prefix dst) (λ h. omega (arith, ge, s h)) in
-    ap (λ (b : Bool). b && eqb r.prefix.bits n) no
+holds_none dst shorter r ge s n = grind (arith, not_true)
 
 -- nothing was found at any length
 pub found_nowhere : (routes : List Route) (dst : Address) (shorter : ℕ) → 33 ≤ shorter → All (IsShorter dst shorter) routes → None ≡ link_to routes dst
 unfolding link_to
-found_nowhere routes dst shorter ge a =
-    sym (ap (λ (o : Option Route). option_map (λ (r : Route). r.link) o)
-    (all_none (leads (longest routes dst) dst) routes (All-weaker (IsShorter dst shorter) (λ (r : Route). leads (longest routes dst) dst r ≡ false) (λ r s. holds_none dst shorter r ge s (longest routes dst)) routes a)))
+found_nowhere routes dst shorter ge a = grind (arith, all_none, holds_none)

@@ -1,5 +1,5 @@
 -- The route that a look-up finds is the one with the longest prefix.
-use Rattle.tva_router.proofs.Common.{◌≡◌, ◌⊎◌, ℕ, ◌≤◌, max, Bool, true, false, ◌&&◌, cond, eqb, List, [], ◌∷◌, map, filter, Option, Some, None, refl, sym, subst, inl, inr, suc, arith, Contains, All, find, fold, option_map, All-nil, All-cons, holds, Address, Route, longest, leads, link_to, IsWay, leb_tells, nat_tests}
+use Rattle.tva_router.proofs.Common.{◌≡◌, ◌⊎◌, ℕ, ◌≤◌, max, Bool, true, false, ◌&&◌, cond, eqb, List, [], ◌∷◌, map, filter, Option, Some, None, refl, sym, subst, inl, inr, suc, arith, Contains, All, find, fold, option_map, All-nil, All-cons, holds, Address, Route, longest, leads, link_to, IsWay, leb_tells, nat_tests, rules, common_steps}
 use Rattle.tva_router.proofs.Ports.{same_link}
 
 module _ {X : Type 0} where
@@ -74,9 +74,7 @@ reached bits (r ∷ rs) dst =
     ]) refl
 
 pub both : (a b : Bool) → a && b ≡ true → (a ≡ true) × (b ≡ true)
-both true true e = (refl, refl)
-both true false e = absurd (cc)
-both false b e = absurd (cc)
+both a b e = grind arith
 
 eqb_same : (k : ℕ) → eqb k k ≡ true
 eqb_same k = grind (arith, nat_tests)

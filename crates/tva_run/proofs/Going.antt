@@ -1,5 +1,5 @@
 -- How a run goes on: over a window, and where nothing is to be done.
-use Rattle.tva_run.proofs.Common.{◌≡◌, ℕ, zero, suc, ◌+◌, ◌<◌, ◌≤◌, List, [], ◌∷◌, ◌++◌, length, Some, refl, sym, subst, ◌∙◌, ap, ap₂, arith, inl, inr, nat_lt, ◌==◌, slice_get, option_map, AllByRecursion, lt-ltb, le-ltb, cases_lt, get_or_past, append_cancel_left, append-nil, filter-append, slice_get_cases, Event, LinkPlan, Config, NodePlan, Row, IsJoin, cut, Site, site_of, input_time, input_source, entry_time, IsNodeLog, due, Logs, log_at, links_out, site_at, reaches, HasLog, IsRunTo, logs_before, event_time, event_node, events_at, AreEvents, least_delay, window_length, IsAtRest}
+use Rattle.tva_run.proofs.Common.{nat_tests, ◌≡◌, ℕ, zero, suc, ◌+◌, ◌<◌, ◌≤◌, List, [], ◌∷◌, ◌++◌, length, Some, refl, sym, ◌∙◌, ap, ap₂, arith, inl, inr, nat_lt, ◌==◌, slice_get, option_map, AllByRecursion, cases_lt, get_or_past, append_cancel_left, append-nil, filter-append, slice_get_cases, Event, LinkPlan, Config, NodePlan, Row, IsJoin, cut, Site, site_of, input_time, input_source, entry_time, IsNodeLog, due, Logs, log_at, links_out, site_at, reaches, HasLog, IsRunTo, logs_before, event_time, event_node, events_at, AreEvents, least_delay, window_length, IsAtRest}
 use Rattle.tva_run.proofs.Joins.{filter-true, filter-false, in_order-filter, in_order-append, join_unique, cut-cut, each-cut}
 use Rattle.tva_run.proofs.Putting.{each_from_sources}
 use Rattle.tva_run.proofs.Logs.{IsNodeLog-cut, IsNodeLog-same, IsNodeLog-unique}
@@ -18,14 +18,9 @@ least_rest none link other links = omega arith
 
 pub least_delay-least : (none : ℕ) (links : List LinkPlan) (number : ℕ) (link : LinkPlan) → slice_get links number ≡ Some link → least_delay none links ≤ link.delay
 least_delay-least none [] number link h = absurd (cc)
-least_delay-least none (first ∷ links) zero link h =
-    let same : first ≡ link = cc in
-    subst (λ (l : LinkPlan). least_delay none (first ∷ links) ≤ l.delay) same (least_first none first links)
+least_delay-least none (first ∷ links) zero link h = grind (arith, nat_tests)
 least_delay-least none (first ∷ []) (suc number) link h = absurd (cc)
-least_delay-least none (first ∷ other ∷ links) (suc number) link h =
-    let a = least_rest none first other links in
-    let b = least_delay-least none (other ∷ links) number link h in
-    omega arith
+least_delay-least none (first ∷ other ∷ links) (suc number) link h = grind (arith, nat_tests, least_rest, (least_delay-least none (other ∷ links) number link h))
 
 -- the link in one place has the least delay
 record HasLeast (none : ℕ) (links : List LinkPlan) (delay : ℕ) : Type 0 where
@@ -137,11 +132,7 @@ run_rests config rows from until logs later within run rest = record {
 
 late_each : {X : Type 0} (time : X → ℕ) (t : ℕ) (xs : List X) → cut time t xs ≡ [] → AllByRecursion (λ x. t ≤ time x) xs
 late_each time t [] h = tt
-late_each time t (x ∷ xs) h =
-    elim (cases_lt (time x) t) [
-      | inl l ↦ let k = sym (filter-true (λ y. nat_lt (time y) t) x xs (lt-ltb (time x) t l)) ∙ h in absurd (cc)
-      | inr l ↦ (l, late_each time t xs (sym (filter-false (λ y. nat_lt (time y) t) x xs (le-ltb (time x) t l)) ∙ h))
-    ]
+late_each time t (x ∷ xs) h = grind (arith, nat_tests, filter-true, filter-false, (late_each time t xs))
 
 module _ (config : Config) (from : ℕ) (logs : Logs) (first news : List Event) (new : ℕ → List Event) (old : AreEvents config (logs_before from logs) first) (more : (node : ℕ) → events_at config logs node ≡ events_at config (logs_before from logs) node ++ new node) (join : IsJoin event_time event_node new news) where
   new_late : (node : ℕ) → AllByRecursion (λ e. from ≤ event_time e) (new node)

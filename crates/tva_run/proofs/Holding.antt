@@ -1,8 +1,7 @@
 -- All that happens in a run happens in its windows.
-use Rattle.tva_run.proofs.Common.{◌≡◌, ℕ, suc, ◌+◌, ◌<◌, ◌≤◌, List, [], ◌∷◌, ◌++◌, length, map, filter, true, false, Option, Some, None, refl, sym, subst, ◌∙◌, ap, ap₂, arith, inl, inr, ◌⊎◌, nat_lt, nat_le, ◌&&◌, ◌==◌, Contains, option_and_then, option_map_or, AllByRecursion, flat_map, lt-ltb, cases_lt, nat_tests, append-nil, filter-append, Event, LinkLimits, Class, PacketData, decision, Start, WaitUntil, Idle, Config, Row, IsInOrder, cut, Input, Site, limits_out, Entry, Took, Started, input_time, input_source, entry_time, entry_rank, port_logs, starts, start_of, start_after, due, GoesOn, next_by, next_decision, next_on, events, Logs, log_at, site_at, reaches, IsRunTo, event_time, event_node, AreEvents, Window, IsWork, AreWindows, events_in, given}
+use Rattle.tva_run.proofs.Common.{◌≡◌, ℕ, suc, ◌+◌, ◌<◌, ◌≤◌, List, [], ◌∷◌, ◌++◌, length, map, filter, true, false, Option, Some, None, refl, sym, ◌∙◌, ap, ap₂, arith, inl, inr, ◌⊎◌, nat_lt, nat_le, ◌&&◌, ◌==◌, Contains, option_map_or, AllByRecursion, flat_map, cases_lt, nat_tests, append-nil, filter-append, Event, LinkLimits, Class, PacketData, Config, Row, IsInOrder, cut, Input, Site, Entry, Took, Started, input_time, input_source, entry_time, entry_rank, starts, start_after, due, GoesOn, next_decision, next_on, events, Logs, log_at, site_at, reaches, IsRunTo, event_time, event_node, AreEvents, Window, IsWork, AreWindows, events_in, given}
 use Rattle.std.proofs.lemmas.List.Folds.{flat_map-map}
 use Rattle.tva_port.specs.Log as port
-use Rattle.tva_port.specs.declared.decision.Decision as decided
 use Rattle.tva_run.proofs.Joins.{filter-true, filter-false, filter-all, filter-none, each-filter, each-weaker, cut-early, cut-late, times_from}
 use Rattle.tva_run.proofs.Putting.{each_from_sources, each-both}
 use Rattle.tva_run.proofs.Ports.{busy_starts_none, free_starts, next_busy, next_free, next_unused}
@@ -11,33 +10,11 @@ use Rattle.tva_run.proofs.Sites.{site_number}
 
 -- ## where there is a start, its link decides
 
-next_of_start : (now : ℕ) (d : decided.Decision) (s : Class × PacketData) → start_of d ≡ Some s → next_by now d ≡ Some now
-next_of_start now (Start class packet) s e = refl
-next_of_start now (WaitUntil time) s e = absurd (cc)
-next_of_start now Idle s e = absurd (cc)
-
 start_decides : (l : LinkLimits) (log : List port.Entry) (now : ℕ) (s : Class × PacketData) → start_after l log now ≡ Some s → next_decision l log now ≡ Some now
-start_decides l log now s e =
-    elim (cases_lt now (port.free_after l log)) [
-      | inl busy ↦ let none = sym (busy_starts_none l log now busy) ∙ e in absurd (cc)
-      | inr free ↦
-          let by : next_by now (decision l log now) ≡ Some now = next_of_start now (decision l log now) s (sym (free_starts l log now free) ∙ e) in
-          elim (cases_lt (port.free_after l log) now) [
-            | inl early ↦ next_free l log now early ∙ by
-            | inr late ↦ elim (cases_lt 0 (port.free_after l log)) [
-              | inl some ↦ next_busy l log now some late ∙ ap Some (omega arith)
-              | inr none ↦ next_unused l log now (omega arith) ∙ by
-            ]
-          ]
-    ]
-
-starts_by : (log : List Entry) (link now : ℕ) (o : Option (ℕ × LinkLimits)) (s : Class × PacketData)
-    → option_and_then (λ x. start_after x.1 (port_logs log link) now) o ≡ Some s → option_and_then (λ x. next_decision x.1 (port_logs log link) now) o ≡ Some now
-starts_by log link now None s e = absurd (cc)
-starts_by log link now (Some x) s e = start_decides x.1 (port_logs log link) now s e
+start_decides l log now s e = grind (arith, nat_tests, busy_starts_none, free_starts, next_free, next_busy, next_unused)
 
 starts_decides : (site : Site) (log : List Entry) (link now : ℕ) (s : Class × PacketData) → starts site log link now ≡ Some s → next_on site log now link ≡ Some now
-starts_decides site log link now s e = starts_by log link now (limits_out site link) s e
+starts_decides site log link now s e = grind (arith, nat_tests, start_decides)
 
 -- ## each entry comes where there is work
 
@@ -61,11 +38,7 @@ back time source (x ∷ xs) ys o = back time source xs ys o.1
 -- either all come before a time, or something holds that holds at each one's time
 before_or : {X : Type 0} (time : X → ℕ) (P : ℕ → Type 0) (t : ℕ) (xs : List X) → AllByRecursion (λ x. P (time x)) xs → AllByRecursion (λ x. time x ≤ t) xs → AllByRecursion (λ x. time x < t) xs ⊎ P t
 before_or time P t [] h l = inl tt
-before_or time P t (x ∷ xs) h l =
-    elim (cases_lt (time x) t) [
-      | inl a ↦ elim (before_or time P t xs h.1 l.1) [ inl b ↦ inl (a, b) | inr p ↦ inr p ]
-      | inr a ↦ let k = l.0 in inr (subst P (omega arith) h.0)
-    ]
+before_or time P t (x ∷ xs) h l = grind (arith, nat_tests, (before_or time P t xs h.1 l.1))
 
 module _ (config : Config) (rows : List Row) (logs : Logs) (node : ℕ) (site : Site) (there : site_at config node ≡ Some site) where
   input_work : (source t : ℕ) → Contains (map input_time (reaches config rows logs node source)) t → IsWork config rows logs t
@@ -145,13 +118,13 @@ is_since from t h = grind (arith, nat_tests)
 not_since : (from t : ℕ) → t < from → nat_le from t ≡ false
 not_since from t h = grind (arith, nat_tests)
 
-is_in : (a b t : ℕ) → a ≤ t → t < b → (nat_le a t && nat_lt t b) ≡ true
+pub is_in : (a b t : ℕ) → a ≤ t → t < b → (nat_le a t && nat_lt t b) ≡ true
 is_in a b t h k = grind (arith, nat_tests)
 
-is_behind : (a b t : ℕ) → b ≤ t → (nat_le a t && nat_lt t b) ≡ false
+pub is_behind : (a b t : ℕ) → b ≤ t → (nat_le a t && nat_lt t b) ≡ false
 is_behind a b t h = grind (arith, nat_tests)
 
-is_ahead : (a b t : ℕ) → t < a → (nat_le a t && nat_lt t b) ≡ false
+pub is_ahead : (a b t : ℕ) → t < a → (nat_le a t && nat_lt t b) ≡ false
 is_ahead a b t h = grind (arith, nat_tests)
 
 -- what comes from a time on is what comes in the next window, and what comes from its end on
@@ -164,10 +137,9 @@ split from a b l m (e ∷ es) o h =
           rw (filter-false (λ x. nat_le from (event_time x)) e es (not_since from (event_time e) before), filter-false (λ x. nat_le a (event_time x) && nat_lt (event_time x) b) e es (is_ahead a b (event_time e) (omega arith)), filter-false (λ x. nat_le b (event_time x)) e es (not_since b (event_time e) (omega arith)))
           (split from a b l m es o.1 h.1)
       | inr here ↦
-          let k = h.0 here in
           elim (cases_lt (event_time e) b) [
             | inl within ↦
-                rw (filter-true (λ x. nat_le from (event_time x)) e es (is_since from (event_time e) here), filter-true (λ x. nat_le a (event_time x) && nat_lt (event_time x) b) e es (is_in a b (event_time e) k within), filter-false (λ x. nat_le b (event_time x)) e es (not_since b (event_time e) within))
+                rw (filter-true (λ x. nat_le from (event_time x)) e es (is_since from (event_time e) here), filter-true (λ x. nat_le a (event_time x) && nat_lt (event_time x) b) e es (is_in a b (event_time e) (h.0 here) within), filter-false (λ x. nat_le b (event_time x)) e es (not_since b (event_time e) within))
                 (ap (λ (xs : List Event). e ∷ xs) (split from a b l m es o.1 h.1))
             | inr past ↦
                 let late : AllByRecursion (λ x. b ≤ event_time x) (e ∷ es) = each-weaker (λ x. event_time e ≤ event_time x) (λ x. b ≤ event_time x) (λ x n. omega arith) (e ∷ es) (times_from event_time event_node e es o) in
@@ -206,13 +178,9 @@ module _ (config : Config) (rows : List Row) (logs : Logs) (told : List Event) (
 no_empty : {X : Type 0} (xss : List (List X)) → flat_map (λ xs. xs) (filter (λ xs. nat_lt 0 (length xs)) xss) ≡ flat_map (λ xs. xs) xss
 no_empty [] = refl
 no_empty ([] ∷ xss) = no_empty xss
-no_empty {X = X} ((x ∷ xs) ∷ xss) =
-    let some : nat_lt 0 (length (x ∷ xs)) ≡ true = lt-ltb 0 (length (x ∷ xs)) (omega arith) in
-    rw (filter-true (λ (ys : List X). nat_lt 0 (length ys)) (x ∷ xs) xss some) (ap (λ ys. (x ∷ xs) ++ ys) (no_empty xss))
+no_empty {X = X} ((x ∷ xs) ∷ xss) = grind (arith, nat_tests, filter-true, (no_empty xss))
 
 pub windows_hold : (config : Config) (rows : List Row) (logs : Logs) (windows : List Window) (told : List Event) → IsRunTo config rows (config.horizon.0 + 1) logs → AreEvents config logs told → AreWindows config rows logs 0 windows → flat_map (λ es. es) (given told windows) ≡ told
 windows_hold config rows logs windows told run h are =
     let works = events_work config rows (config.horizon.0 + 1) logs told run h in
-    no_empty (map (events_in told) windows)
-    ∙ (flat_map-map (λ (es : List Event). es) (events_in told) windows
-    ∙ (sym (held config rows logs told h.in_order works 0 windows are) ∙ whole_since config rows logs told h.in_order works))
+    cc (no_empty (map (events_in told) windows), flat_map-map (λ (es : List Event). es) (events_in told) windows, held config rows logs told h.in_order works 0 windows are, whole_since config rows logs told h.in_order works)

@@ -1,5 +1,5 @@
 -- Joins before a time, and joins with more put in.
-use Rattle.tva_run.proofs.Common.{◌≡◌, ℕ, List, ◌++◌, sym, subst, ap, ◌∙◌, nat_lt, ◌==◌, IsJoin, NeverFalls, cut, from_source, put_all}
+use Rattle.tva_run.proofs.Common.{arith, nat_tests, ◌≡◌, ℕ, List, ◌++◌, sym, ◌∙◌, IsJoin, NeverFalls, cut, from_source, put_all}
 use Rattle.tva_run.proofs.Joins.{filter_swap, in_order-filter, join_unique}
 use Rattle.tva_run.proofs.Putting.{in_order-put_all, source-put_all}
 
@@ -8,15 +8,7 @@ module _ {X : Type 0} (time source : X → ℕ) (gives : ℕ → List X) where
   one_join xs ys a b = join_unique time source xs ys a.in_order b.in_order (λ s. a.each s ∙ sym (b.each s))
 
   pub join-cut : (until : ℕ) (xs : List X) → IsJoin time source gives xs → IsJoin time source (λ s. cut time until (gives s)) (cut time until xs)
-  join-cut until xs j = record {
-    in_order = in_order-filter time source (λ x. nat_lt (time x) until) xs j.in_order;
-    each = λ s. filter_swap (λ x. source x == s) (λ x. nat_lt (time x) until) xs ∙ ap (cut time until) (j.each s);
-  }
+  join-cut until xs j = grind (arith, nat_tests, in_order-filter, filter_swap)
 
   pub join-put_all : (xs ys : List X) → IsJoin time source gives ys → ((s : ℕ) → NeverFalls time (gives s ++ from_source source s xs)) → IsJoin time source (λ s. gives s ++ from_source source s xs) (put_all time source xs ys)
-  join-put_all xs ys j rises = record {
-    in_order = in_order-put_all time source xs ys j.in_order;
-    each = λ s.
-        source-put_all time source xs ys j.in_order (λ k. subst (λ (zs : List X). NeverFalls time (zs ++ from_source source k xs)) (sym (j.each k)) (rises k)) s
-        ∙ ap (λ (zs : List X). zs ++ from_source source s xs) (j.each s);
-  }
+  join-put_all xs ys j rises = grind (arith, nat_tests, in_order-put_all, source-put_all)

@@ -1,5 +1,5 @@
 -- Lemmas on lists that join several sources.
-use Rattle.tva_run.proofs.Common.{◌≡◌, ℕ, ◌<◌, ◌≤◌, List, [], ◌∷◌, ◌++◌, filter, Bool, true, false, refl, sym, ◌∙◌, ap, ap₂, arith, inl, inr, ◌⊎◌, nat_lt, ◌==◌, AllByRecursion, lt-ltb, ltb-true, le-ltb, eq-eqb, ne_eqb, cases_Bool, cases_eq, MayPrecede, IsInOrder, from_source, cut}
+use Rattle.tva_run.proofs.Common.{nat_tests, ◌≡◌, ℕ, ◌<◌, ◌≤◌, List, [], ◌∷◌, ◌++◌, filter, Bool, true, false, refl, sym, ◌∙◌, ap, ap₂, arith, inl, inr, ◌⊎◌, nat_lt, ◌==◌, AllByRecursion, lt-ltb, ltb-true, le-ltb, eq-eqb, ne_eqb, cases_eq, MayPrecede, IsInOrder, from_source, cut, map}
 
 -- ## any list
 
@@ -11,29 +11,23 @@ filter-false p x xs h = rw h refl
 
 pub filter_swap : {X : Type 0} (p q : X → Bool) (xs : List X) → filter p (filter q xs) ≡ filter q (filter p xs)
 filter_swap p q [] = refl
-filter_swap p q (x ∷ xs) =
-    elim (cases_Bool (p x)) [
-      | inl a ↦ elim (cases_Bool (q x)) [
-        | inl b ↦ rw (filter-true q x xs b, filter-true p x xs a, filter-true p x (filter q xs) a, filter-true q x (filter p xs) b) (ap (λ ys. x ∷ ys) (filter_swap p q xs))
-        | inr b ↦ rw (filter-false q x xs b, filter-true p x xs a, filter-false q x (filter p xs) b) (filter_swap p q xs)
-      ]
-      | inr a ↦ elim (cases_Bool (q x)) [
-        | inl b ↦ rw (filter-true q x xs b, filter-false p x xs a, filter-false p x (filter q xs) a) (filter_swap p q xs)
-        | inr b ↦ rw (filter-false q x xs b, filter-false p x xs a) (filter_swap p q xs)
-      ]
-    ]
+filter_swap p q (x ∷ xs) = grind (arith, nat_tests, filter-true, filter-false, (filter_swap p q xs))
 
 pub each-filter : {X : Type 0} (P : X → Type 0) (p : X → Bool) (xs : List X) → AllByRecursion P xs → AllByRecursion P (filter p xs)
 each-filter P p [] h = tt
-each-filter P p (x ∷ xs) h =
-    elim (cases_Bool (p x)) [
-      | inl a ↦ rw (filter-true p x xs a) (h.0, each-filter P p xs h.1)
-      | inr a ↦ rw (filter-false p x xs a) (each-filter P p xs h.1)
-    ]
+each-filter P p (x ∷ xs) h = grind (arith, nat_tests, filter-true, filter-false, (each-filter P p xs h.1))
 
 pub each-append : {X : Type 0} (P : X → Type 0) (xs ys : List X) → AllByRecursion P xs → AllByRecursion P ys → AllByRecursion P (xs ++ ys)
 each-append P [] ys a b = b
 each-append P (x ∷ xs) ys a b = (a.0, each-append P xs ys a.1 b)
+
+pub each-right : {X : Type 0} (P : X → Type 0) (xs ys : List X) → AllByRecursion P (xs ++ ys) → AllByRecursion P ys
+each-right P [] ys h = h
+each-right P (x ∷ xs) ys h = each-right P xs ys h.1
+
+pub each-map : {X Y : Type 0} (f : X → Y) (P : Y → Type 0) (xs : List X) → AllByRecursion (λ x. P (f x)) xs → AllByRecursion P (map f xs)
+each-map f P [] h = tt
+each-map f P (x ∷ xs) h = (h.0, each-map f P xs h.1)
 
 pub each-weaker : {X : Type 0} (P Q : X → Type 0) → ((x : X) → P x → Q x) → (xs : List X) → AllByRecursion P xs → AllByRecursion Q xs
 each-weaker P Q w [] h = tt
@@ -42,11 +36,7 @@ each-weaker P Q w (x ∷ xs) h = (w x h.0, each-weaker P Q w xs h.1)
 -- what passes the test
 pub each-passes : {X : Type 0} (p : X → Bool) (xs : List X) → AllByRecursion (λ x. p x ≡ true) (filter p xs)
 each-passes p [] = tt
-each-passes p (x ∷ xs) =
-    elim (cases_Bool (p x)) [
-      | inl a ↦ rw (filter-true p x xs a) (a, each-passes p xs)
-      | inr a ↦ rw (filter-false p x xs a) (each-passes p xs)
-    ]
+each-passes p (x ∷ xs) = grind (arith, nat_tests, filter-true, filter-false, (each-passes p xs))
 
 -- where each passes, all are kept
 pub filter-all : {X : Type 0} (p : X → Bool) (xs : List X) → AllByRecursion (λ x. p x ≡ true) xs → filter p xs ≡ xs
@@ -61,28 +51,17 @@ filter-none p (x ∷ xs) h = rw (filter-false p x xs h.0) (filter-none p xs h.1)
 -- ## the order
 
 pub may_precede_trans : (a b c d e f : ℕ) → (a < c) ⊎ ((a ≡ c) × (b ≤ d)) → (c < e) ⊎ ((c ≡ e) × (d ≤ f)) → (a < e) ⊎ ((a ≡ e) × (b ≤ f))
-may_precede_trans a b c d e f h k =
-    elim h [
-      | inl h ↦ elim k [ inl k ↦ inl (omega arith) | inr k ↦ inl (let i = k.0 in omega arith) ]
-      | inr h ↦ elim k [ inl k ↦ inl (let i = h.0 in omega arith) | inr k ↦ inr (h.0 ∙ k.0, (let i = h.1 in let j = k.1 in omega arith)) ]
-    ]
+may_precede_trans a b c d e f h k = grind arith
 
 module _ {X : Type 0} (time source : X → ℕ) where
   pub in_order-filter : (p : X → Bool) (xs : List X) → IsInOrder time source xs → IsInOrder time source (filter p xs)
   in_order-filter p [] h = tt
-  in_order-filter p (x ∷ xs) h =
-      elim (cases_Bool (p x)) [
-        | inl a ↦ rw (filter-true p x xs a) (each-filter (MayPrecede time source x) p xs h.0, in_order-filter p xs h.1)
-        | inr a ↦ rw (filter-false p x xs a) (in_order-filter p xs h.1)
-      ]
+  in_order-filter p (x ∷ xs) h = grind (arith, nat_tests, filter-true, each-filter, filter-false, (in_order-filter p xs h.1))
 
   -- one list after another that is later
   pub in_order-append : (t : ℕ) (xs ys : List X) → IsInOrder time source xs → IsInOrder time source ys → AllByRecursion (λ x. time x < t) xs → AllByRecursion (λ y. t ≤ time y) ys → IsInOrder time source (xs ++ ys)
   in_order-append t [] ys a b early late = b
-  in_order-append t (x ∷ xs) ys a b early late = (
-    each-append (MayPrecede time source x) xs ys a.0 (each-weaker (λ y. t ≤ time y) (MayPrecede time source x) (λ y l. inl (let e = early.0 in omega arith)) ys late),
-    in_order-append t xs ys a.1 b early.1 late,
-  )
+  in_order-append t (x ∷ xs) ys a b early late = grind (arith, nat_tests, each-append, each-weaker, (in_order-append t xs ys a.1 b early.1 late))
 
   own_first : (x : X) (xs : List X) → from_source source (source x) (x ∷ xs) ≡ x ∷ from_source source (source x) xs
   own_first x xs = filter-true (λ y. source y == source x) x xs (eq-eqb (source x) (source x) refl)
@@ -92,16 +71,10 @@ module _ {X : Type 0} (time source : X → ℕ) where
 
   -- what one source gives, where the first of the others of that source is x, has x no earlier than the first
   head_after : (y x : X) (ys rest : List X) → AllByRecursion (MayPrecede time source y) ys → from_source source (source x) ys ≡ x ∷ rest → MayPrecede time source y x
-  head_after y x ys rest h e =
-      let all : AllByRecursion (MayPrecede time source y) (from_source source (source x) ys) = each-filter (MayPrecede time source y) (λ z. source z == source x) ys h in
-      (rw e at all).0
+  head_after y x ys rest h e = grind (arith, nat_tests, each-filter)
 
   both_ways : (a b c d : ℕ) → (a < c) ⊎ ((a ≡ c) × (b ≤ d)) → (c < a) ⊎ ((c ≡ a) × (d ≤ b)) → b ≡ d
-  both_ways a b c d h k =
-      elim h [
-        | inl h ↦ elim k [ inl k ↦ absurd (omega arith) | inr k ↦ absurd (let i = k.0 in omega arith) ]
-        | inr h ↦ elim k [ inl k ↦ absurd (let i = h.0 in omega arith) | inr k ↦ (let i = h.1 in let j = k.1 in omega arith) ]
-      ]
+  both_ways a b c d h k = grind arith
 
   cons_same : (x y : X) (xs ys : List X) → x ∷ xs ≡ y ∷ ys → (x ≡ y) × (xs ≡ ys)
   cons_same x y xs ys e = (cc, cc)
@@ -141,7 +114,7 @@ module _ {X : Type 0} (time source : X → ℕ) where
   pub each-cut : (until : ℕ) (xs : List X) → AllByRecursion (λ x. time x < until) (cut time until xs)
   each-cut until xs = each-weaker (λ x. nat_lt (time x) until ≡ true) (λ x. time x < until) (λ x l. ltb-true (time x) until l) (cut time until xs) (each-passes (λ x. nat_lt (time x) until) xs)
 
-  each_at_least : (xs : List X) → AllByRecursion (λ x. 0 ≤ time x) xs
+  pub each_at_least : (xs : List X) → AllByRecursion (λ x. 0 ≤ time x) xs
   each_at_least [] = tt
   each_at_least (x ∷ xs) = (omega arith, each_at_least xs)
 
@@ -150,9 +123,7 @@ module _ {X : Type 0} (time source : X → ℕ) where
 
   -- a later cut changes nothing
   pub cut-cut : (t until : ℕ) (xs : List X) → t ≤ until → cut time t (cut time until xs) ≡ cut time t xs
-  cut-cut t until xs l =
-      filter_swap (λ x. nat_lt (time x) t) (λ x. nat_lt (time x) until) xs
-      ∙ cut-early until (cut time t xs) (each-weaker (λ x. time x < t) (λ x. time x < until) (λ x h. omega arith) (cut time t xs) (each-cut t xs))
+  cut-cut t until xs l = grind (arith, nat_tests, filter_swap, cut-early, each-weaker, each-cut)
 
   -- in order, no later one comes before the first
   pub times_from : (x : X) (xs : List X) → IsInOrder time source (x ∷ xs) → AllByRecursion (λ y. time x ≤ time y) (x ∷ xs)

@@ -1,6 +1,6 @@
 -- A node's log is what the words say of it: its inputs in their turn, and on each link a legal log with no start missed.
-use Rattle.tva_run.proofs.Common.{◌≡◌, ℕ, suc, ◌+◌, ◌≤◌, ◌<◌, List, [], ◌∷◌, ◌++◌, Option, Some, None, All, refl, sym, ap, ◌∙◌, subst, arith, append_assoc, ◌==◌, nat_le, option_and_then, IfSome, AllByRecursion, cons_option, cond-true, le-leb, filter_map-append, recursion_from_All, All-from_recursion, LinkLimits, Class, PacketData, decision, MissesNone, RestsAt, goes_on-push, legal-here, cut, Input, Site, IsSite, limits_out, Entry, Took, Started, entry_time, port_entry, port_logs, start_of, start_after, starts, due, GoesOn, IsNodeLog, Takes, IsLegalLog, IsShort, AreShort}
-use Rattle.std.proofs.Common.{append-nil, eq-eqb}
+use Rattle.tva_run.proofs.Common.{nat_tests, ◌≡◌, ℕ, suc, ◌+◌, ◌≤◌, ◌<◌, List, [], ◌∷◌, ◌++◌, Option, Some, None, All, refl, sym, ap, ◌∙◌, subst, arith, append_assoc, option_and_then, IfSome, AllByRecursion, cons_option, filter_map-append, recursion_from_All, All-from_recursion, LinkLimits, Class, PacketData, MissesNone, RestsAt, goes_on-push, legal-here, cut, Input, Site, IsSite, limits_out, Entry, Took, Started, entry_time, port_entry, port_logs, start_after, starts, due, GoesOn, IsNodeLog, Takes, IsLegalLog, IsShort, AreShort}
+use Rattle.std.proofs.Common.{append-nil}
 use Rattle.tva_port.specs.Log as port
 use Rattle.tva_port.specs.Legal as ports
 use Rattle.tva_run.proofs.Joins.{each-weaker}
@@ -31,12 +31,8 @@ both_some : (l : LinkLimits) (log : List port.Entry) (o : Option port.Entry) →
 both_some l log None f s = tt
 both_some l log (Some x) f s = f s
 
-legal_option : (l : LinkLimits) (log : List port.Entry) (o : Option port.Entry) → ports.IsLegal l log → IfSome o (ports.Follows l log) → ports.IsLegal l (log ++ cons_option o [])
-legal_option l log None g k = subst (λ (z : List port.Entry). ports.IsLegal l z) (sym (append-nil log)) g
-legal_option l log (Some x) g k = goes_on-push l [] log x g k
-
 legal_more : (l : LinkLimits) (log : List Entry) (e : Entry) (link : ℕ) → ports.IsLegal l (port_logs log link) → IfHas link (ports.Follows l (port_logs log link)) e → ports.IsLegal l (port_logs (log ++ e ∷ []) link)
-legal_more l log e link g k = subst (λ (z : List port.Entry). ports.IsLegal l z) (sym (filter_map-append (port_entry link) log (e ∷ []))) (legal_option l (port_logs log link) (port_entry link e) g k)
+legal_more l log e link g k = grind (arith, nat_tests, filter_map-append, append-nil, goes_on-push)
 
 module _ (site : Site) (valid : IsSite site) (link : ℕ) (l : LinkLimits) (out : limits_out site link ≡ Some (link, l)) where
   may_follow : (before : List Entry) (e : Entry) → AllByRecursion (λ x. entry_time x ≤ entry_time e) before → IsMade AnyInput site before e → IfHas link (MayFollow l (port_logs before link)) e
@@ -85,11 +81,10 @@ module _ (site : Site) where
 
   takes_by : (before : List Entry) (is : List Input) (es : List Entry) → GoesOn site before is es → Takes site before is es
   takes_by before [] [] g = tt
-  takes_by before (i ∷ is) [] g = absurd g
-  takes_by before [] (Took j c ∷ es) g = absurd g
   takes_by before (i ∷ is) (Took j c ∷ es) g = (g.0, g.1, takes_by (before ++ Took j c ∷ []) is es g.2)
   takes_by before [] (Started t k c p ∷ es) g = (link_by k (limits_out site k) (port_logs before k) t c p refl g.0, takes_by (before ++ Started t k c p ∷ []) [] es g.1)
   takes_by before (i ∷ is) (Started t k c p ∷ es) g = (link_by k (limits_out site k) (port_logs before k) t c p refl g.0, takes_by (before ++ Started t k c p ∷ []) (i ∷ is) es g.1)
+  takes_by before _ _ g = absurd g
 
   pub log_is_legal : (inputs : List Input) (until : ℕ) (log : List Entry) → IsSite site → AreShort site log → IsNodeLog site inputs until log → IsLegalLog site inputs until log
   log_is_legal inputs until log valid s h = record {
@@ -104,21 +99,9 @@ module _ (site : Site) where
   abbrev LinksLegal : List Entry → Type 0
   LinksLegal log = (link : ℕ) (o : ℕ × LinkLimits) → limits_out site link ≡ Some o → ports.IsLegal o.1 (port_logs log link)
 
-  start_there : (l : LinkLimits) (log : List port.Entry) (now : ℕ) (class : Class) (p : PacketData) → ports.IsStarted l log now class p → start_after l log now ≡ Some (class, p)
-  unfolding start_after
-  start_there l log now class p s =
-      cond-true (nat_le (port.free_after l log) now) (start_of (decision l log now)) None (le-leb (port.free_after l log) now s.free) ∙ ap start_of s.decided
-
-  here_in : (t k : ℕ) (c : Class) (p : PacketData) (es : List Entry) → port_logs (Started t k c p ∷ es) k ≡ port.Started t c p ∷ port_logs es k
-  here_in t k c p es = ap (λ (o : Option port.Entry). cons_option o (port_logs es k)) (cond-true (k == k) (Some (port.Started t c p)) None (eq-eqb k k refl))
-
   start_back : (before : List Entry) (t k : ℕ) (c : Class) (p : PacketData) (es : List Entry) → HasLink site k → LinksLegal (before ++ Started t k c p ∷ es) → starts site before k t ≡ Some (c, p)
-  start_back before t k c p es (o, e) g =
-      let parts : port_logs (before ++ Started t k c p ∷ es) k ≡ port_logs before k ++ port.Started t c p ∷ port_logs es k =
-      filter_map-append (port_entry k) before (Started t k c p ∷ es) ∙ ap (λ (z : List port.Entry). port_logs before k ++ z) (here_in t k c p es) in
-      let legal : ports.IsLegal o.1 (port_logs before k ++ port.Started t c p ∷ port_logs es k) = subst (λ (z : List port.Entry). ports.IsLegal o.1 z) parts (g k o e) in
-      ap (option_and_then (λ (x : ℕ × LinkLimits). start_after x.1 (port_logs before k) t)) e
-      ∙ start_there o.1 (port_logs before k) t c p (legal-here o.1 [] (port_logs before k) (port.Started t c p) (port_logs es k) legal)
+  unfolding start_after
+  start_back before t k c p es (o, e) g = grind (arith, nat_tests, filter_map-append, legal-here)
 
   goes_back : (before : List Entry) (is : List Input) (es : List Entry) → Takes site before is es → LinksLegal (before ++ es) → GoesOn site before is es
   goes_back before [] [] g h = tt

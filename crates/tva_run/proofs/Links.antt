@@ -1,11 +1,9 @@
 -- What the log of a node is to its links: what is queued there had its place, and what starts is the free link's decision.
-use Rattle.tva_run.proofs.Common.{◌≡◌, ℕ, suc, ◌+◌, ◌≤◌, ◌<◌, Bool, true, false, cond, List, [], ◌∷◌, map, Option, Some, None, refl, sym, ap, ◌∙◌, subst, inl, inr, arith, ◌==◌, nat_lt, nat_le, option_map, option_and_then, IfSome, AllByRecursion, find, cons_option, cond-true, cond-false, cases_Bool, eqb-true, le-leb, leb-true, lt-ltb, le-ltb, cases_lt, All-from_recursion, same_Some, Address, LinkLimits, Class, Outcome, Queued, Dropped, LinkPlan, RouterPlan, HostPlan, in_force, PacketData, class_by_shim, key_of, Decision, Start, WaitUntil, Idle, decision, is_start, RestsAt, MissesNone, Follows, Judged, judge, PortLogs, offered, outcome_of, sent, outgoing_link, way_to, arrival, goes_on, stopped, forwarded, handle, link_to, charges_at, Made, history_of, answered, receipt_of, NodePlan, cut, Input, FromTrace, Arrival, Site, IsSite, IsPlanned, limits_out, Content, Arrived, Entry, Took, Started, input_time, entry_time, charges, calls, content_at, queued_at, reply_at, port_entry, port_logs, files, packet_of_row, next_id, arrived, routed, goes_out, made_for, hosted, content_by, content, sent_out, IsShort, start_of, start_after, starts, LeavesNone}
+use Rattle.tva_run.proofs.Common.{nat_tests, ◌≡◌, ℕ, suc, ◌+◌, ◌≤◌, ◌<◌, Bool, true, false, cond, List, [], ◌∷◌, map, Option, Some, None, refl, sym, ap, ◌∙◌, subst, arith, ◌==◌, nat_lt, nat_le, option_map, option_and_then, IfSome, AllByRecursion, find, cons_option, lt-ltb, le-ltb, All-from_recursion, same_Some, Address, LinkLimits, Class, Outcome, Queued, Dropped, LinkPlan, RouterPlan, HostPlan, in_force, PacketData, class_by_shim, key_of, Start, decision, RestsAt, MissesNone, Follows, Judged, judge, PortLogs, offered, outcome_of, sent, outgoing_link, way_to, arrival, goes_on, stopped, forwarded, handle, link_to, charges_at, Made, answered, NodePlan, cut, Input, FromTrace, Arrival, Site, IsSite, limits_out, Content, Entry, Started, input_time, entry_time, charges, content_at, queued_at, reply_at, port_entry, port_logs, arrived, routed, goes_out, hosted, content_by, content, sent_out, IsShort, start_of, start_after, starts, LeavesNone}
 use Rattle.tva_drr.specs.declared.offered.Offered.{Offered}
-use Rattle.tva_drr.specs.declared.offered.Offered.TheVariants as offers
 use Rattle.tva_port.specs.Log as port
 use Rattle.tva_plan.specs.declared.config.NodePlan.TheVariants as plans
 use Rattle.tva_run.proofs.Joins.{filter-true, filter-false}
-use Rattle.tva_run.specs.Entries as entry
 
 -- ## links out
 
@@ -14,40 +12,22 @@ limited o = (o.0, o.1.limits)
 
 found_number : (link : ℕ) (o : ℕ × LinkPlan) (os : List (ℕ × LinkPlan)) → find (λ x. x.0 == link) os ≡ Some o → o.0 ≡ link
 found_number link o [] e = absurd (cc)
-found_number link o (x ∷ xs) e = elim (cases_Bool (x.0 == link)) [
-  | inl a ↦
-      let here : Some x ≡ Some o = sym (cond-true (x.0 == link) (Some x) (find (λ y. y.0 == link) xs) a) ∙ e in
-      ap (λ (y : ℕ × LinkPlan). y.0) (sym (same_Some x o here)) ∙ eqb-true x.0 link a
-  | inr a ↦ found_number link o xs (sym (cond-false (x.0 == link) (Some x) (find (λ y. y.0 == link) xs) a) ∙ e)
-]
-
-number_by : (site : Site) (link : ℕ) (found : Option (ℕ × LinkPlan)) (x : ℕ × LinkLimits) → find (λ o. o.0 == link) site.links ≡ found → option_map limited found ≡ Some x → x.0 ≡ link
-number_by site link None x f e = absurd (cc)
-number_by site link (Some o) x f e =
-    let same : limited o ≡ x = same_Some (limited o) x e in
-    ap (λ (y : ℕ × LinkLimits). y.0) (sym same) ∙ found_number link o site.links f
+found_number link o (x ∷ xs) e = grind (arith, nat_tests, same_Some, (found_number link o xs))
 
 -- a link out has its number
 pub number_is : (site : Site) (link : ℕ) (x : ℕ × LinkLimits) → limits_out site link ≡ Some x → x.0 ≡ link
-number_is site link x e = number_by site link (find (λ o. o.0 == link) site.links) x refl e
+number_is site link x e = grind (arith, nat_tests, same_Some, found_number)
 
 pub numbered_out : (site : Site) (link : ℕ) (x : ℕ × LinkLimits) → limits_out site link ≡ Some x → limits_out site link ≡ Some (link, x.1)
-numbered_out site link x e =
-    let with_number : ℕ → ℕ × LinkLimits = λ k. (k, x.1) in
-    e ∙ ap Some (ap with_number (number_is site link x e))
+numbered_out site link x e = grind (arith, nat_tests, number_is)
 
-find-map : {X Y : Type 0} (f : X → Y) (p : Y → Bool) (xs : List X) → find p (map f xs) ≡ option_map f (find (λ x. p (f x)) xs)
+pub find-map : {X Y : Type 0} (f : X → Y) (p : Y → Bool) (xs : List X) → find p (map f xs) ≡ option_map f (find (λ x. p (f x)) xs)
 find-map f p [] = refl
-find-map f p (x ∷ xs) = elim (cases_Bool (p (f x))) [
-  | inl a ↦ cond-true (p (f x)) (Some (f x)) (find p (map f xs)) a ∙ sym (ap (option_map f) (cond-true (p (f x)) (Some x) (find (λ y. p (f y)) xs) a))
-  | inr a ↦ cond-false (p (f x)) (Some (f x)) (find p (map f xs)) a ∙ (find-map f p xs ∙ sym (ap (option_map f) (cond-false (p (f x)) (Some x) (find (λ y. p (f y)) xs) a)))
-]
+find-map f p (x ∷ xs) = grind (arith, nat_tests, (find-map f p xs))
 
 -- a router's links out are its plan's
-router_out : (site : Site) (plan : RouterPlan) (link : ℕ) → IsSite site → site.plan ≡ plans.Router plan → outgoing_link plan link ≡ limits_out site link
-router_out site plan link s e =
-    let planned : IsPlanned (plans.Router plan) site.links = subst (λ (p : NodePlan). IsPlanned p site.links) e s.planned in
-    ap (find (λ o. o.0 == link)) planned.1 ∙ find-map limited (λ o. o.0 == link) site.links
+pub router_out : (site : Site) (plan : RouterPlan) (link : ℕ) → IsSite site → site.plan ≡ plans.Router plan → outgoing_link plan link ≡ limits_out site link
+router_out site plan link s e = grind (arith, nat_tests, find-map)
 
 -- a way out of the node
 abbrev IsWayOut : Site → Option (ℕ × LinkLimits) → Type 0
@@ -80,17 +60,8 @@ queued_time : (link time : ℕ) (outcome : Outcome) (class : Class) (p : PacketD
 queued_time link time (Queued on) class p = elim (link == on) as (λ b. IfSome (cond b (Some (port.Queued time class (key_of class p) p)) None) (λ x. port.entry_time x ≡ time)) [ true ↦ refl | false ↦ tt ]
 queued_time link time (Dropped cause) class p = tt
 
-reply_time : (link time : ℕ) (reply : Option Made) (went : Option Outcome) → IfSome (reply_at link time reply went) (λ x. port.entry_time x ≡ time)
-reply_time link time None went = tt
-reply_time link time (Some m) None = tt
-reply_time link time (Some m) (Some outcome) = queued_time link time outcome (class_by_shim m.packet.carried) m.packet
-
 pub port_time : (link : ℕ) (e : Entry) → IfSome (port_entry link e) (λ x. port.entry_time x ≡ entry_time e)
-port_time link (Took input (Arrived from packet fate onward)) = queued_time link (input_time input) fate.outcome fate.class onward
-port_time link (Took input (entry.Sent m outcome)) = queued_time link (input_time input) outcome (class_by_shim m.packet.carried) m.packet
-port_time link (Took input entry.Ticked) = tt
-port_time link (Took input (entry.Received from packet receipt went range)) = reply_time link (input_time input) receipt.reply went
-port_time link (Started time on class packet) = elim (link == on) as (λ b. IfSome (cond b (Some (port.Started time class packet)) None) (λ x. port.entry_time x ≡ time)) [ true ↦ refl | false ↦ tt ]
+port_time link v0 = grind (arith, nat_tests)
 
 past_option : (now t : ℕ) (o : Option port.Entry) (xs : List port.Entry) → t ≤ now → IfSome o (λ x. port.entry_time x ≡ t) → AllByRecursion (λ x. port.entry_time x ≤ now) xs → AllByRecursion (λ x. port.entry_time x ≤ now) (cons_option o xs)
 past_option now t None xs l e a = a
@@ -115,14 +86,7 @@ cut_drop until t (Some x) xs l e = filter-false (λ (y : port.Entry). nat_lt (po
 -- what a link's log has before a time
 pub logs-cut : (link until : ℕ) (log : List Entry) → port_logs (cut entry_time until log) link ≡ port.entries_before until (port_logs log link)
 logs-cut link until [] = refl
-logs-cut link until (e ∷ es) = elim (cases_lt (entry_time e) until) [
-  | inl l ↦
-      ap (λ (z : List Entry). port_logs z link) (filter-true (λ (x : Entry). nat_lt (entry_time x) until) e es (lt-ltb (entry_time e) until l))
-      ∙ (ap (cons_option (port_entry link e)) (logs-cut link until es) ∙ sym (cut_keep until (entry_time e) (port_entry link e) (port_logs es link) l (port_time link e)))
-  | inr l ↦
-      ap (λ (z : List Entry). port_logs z link) (filter-false (λ (x : Entry). nat_lt (entry_time x) until) e es (le-ltb (entry_time e) until l))
-      ∙ (logs-cut link until es ∙ sym (cut_drop until (entry_time e) (port_entry link e) (port_logs es link) l (port_time link e)))
-]
+logs-cut link until (e ∷ es) = grind (arith, nat_tests, filter-true, cut_keep, port_time, filter-false, cut_drop, (logs-cut link until es))
 
 -- ## what is queued
 
@@ -130,24 +94,10 @@ logs-cut link until (e ∷ es) = elim (cases_lt (entry_time e) until) [
 abbrev pub MayFollow : LinkLimits → List port.Entry → port.Entry → Type 0
 MayFollow l log e = IsShort e → Follows l log e
 
-queued_by_link : (site : Site) (link : ℕ) (l : LinkLimits) (logs : PortLogs) (time : ℕ) (class : Class) (p : PacketData) (k : ℕ) (m : LinkLimits) (o : Offered PacketData) (b : Bool)
-    → limits_out site link ≡ Some (link, l) → limits_out site k ≡ Some (k, m) → port.NoneLater time (logs link) → offered m (logs k) class p ≡ o → (link == k) ≡ b
-    → o ≡ offers.Queued → IfSome (cond b (Some (port.Queued time class (key_of class p) p)) None) (MayFollow l (logs link))
-queued_by_link site link l logs time class p k m o false out way past e t q = tt
-queued_by_link site link l logs time class p k m o true out way past e t q = λ short.
-    let same : link ≡ k = eqb-true link k t in
-    let here : limits_out site link ≡ Some (link, m) = subst (λ j. limits_out site j ≡ Some (j, m)) (sym same) way in
-    let limits : m ≡ l = ap (λ (x : ℕ × LinkLimits). x.1) (same_Some {A = ℕ × LinkLimits} (link, m) (link, l) (sym here ∙ out)) in
-    let offer : offered l (logs link) class p ≡ offers.Queued =
-    ap (λ (x : LinkLimits). offered x (logs link) class p) (sym limits) ∙ (ap (λ (j : ℕ). offered m (logs j) class p) same ∙ (e ∙ q)) in
-    record { order = past; sized = (omega arith, short); offer = offer }
-
 queued_by_offer : (site : Site) (link : ℕ) (l : LinkLimits) (logs : PortLogs) (time : ℕ) (class : Class) (p : PacketData) (k : ℕ) (m : LinkLimits) (o : Offered PacketData)
     → limits_out site link ≡ Some (link, l) → limits_out site k ≡ Some (k, m) → port.NoneLater time (logs link) → offered m (logs k) class p ≡ o
     → IfSome (queued_at link time (outcome_of k o) class p) (MayFollow l (logs link))
-queued_by_offer site link l logs time class p k m offers.Queued out way past e = queued_by_link site link l logs time class p k m offers.Queued (link == k) out way past e refl refl
-queued_by_offer site link l logs time class p k m (offers.NoQueue q) out way past e = tt
-queued_by_offer site link l logs time class p k m (offers.QueueFull q) out way past e = tt
+queued_by_offer site link l logs time class p k m v0 out way past e = grind (arith, nat_tests)
 
 -- a packet that goes its way
 sent_follows : (site : Site) (link : ℕ) (l : LinkLimits) (logs : PortLogs) (time : ℕ) (class : Class) (p : PacketData) (way : Option (ℕ × LinkLimits))
@@ -163,13 +113,8 @@ record Came (plan : RouterPlan) (before : List Entry) (now : ℕ) (made : Conten
   packet : PacketData
   is : arrived plan before now from packet ≡ made
 
-came_row : (number : ℕ) (plan : RouterPlan) (before : List Entry) (now : ℕ) (made : Content) (p : Option PacketData) → option_map (arrived plan before now None) p ≡ Some made → Came plan before now made
-came_row number plan before now made None e = absurd (cc)
-came_row number plan before now made (Some p) e = record { from = None; packet = p; is = same_Some (arrived plan before now None p) made e }
-
 came : (number : ℕ) (plan : RouterPlan) (before : List Entry) (input : Input) (made : Content) → routed number plan before input ≡ Some made → Came plan before (input_time input) made
-came number plan before (FromTrace row) made e = came_row number plan before row.time.0 made (packet_of_row (next_id number before) row.what) e
-came number plan before (Arrival time link packet) made e = record { from = Some link; packet = packet; is = same_Some (arrived plan before time.0 (Some link) packet) made e }
+came number plan before v0 made e = grind (arith, nat_tests)
 
 -- what an input leaves in the log of a link follows those before
 abbrev FollowsAt : LinkLimits → List Entry → ℕ → ℕ → Content → Type 0
@@ -205,13 +150,8 @@ sent_out_follows site plan link l before now (Some m) out past = out_follows sit
 
 hosted_follows : (site : Site) (plan : HostPlan) (link : ℕ) (l : LinkLimits) (before : List Entry) (input : Input) → limits_out site link ≡ Some (link, l) → port.NoneLater (input_time input) (port_logs before link)
     → FollowsAt l before link (input_time input) (hosted site plan before input)
-hosted_follows site plan link l before (FromTrace row) out past =
-    sent_out_follows site plan link l before row.time.0
-    (made_for site.number plan (history_of plan (calls before)) (files plan before) row.time.0 row.what) out past
-hosted_follows site plan link l before (Arrival time from packet) out past =
-    reply_follows site plan link l before time.0
-    (receipt_of site.number plan (history_of plan (calls before)) time.0 packet (answered plan.address (files plan before) packet)).reply
-    out past
+hosted_follows site plan link l before (FromTrace row) out past = search (sent_out_follows)
+hosted_follows site plan link l before (Arrival time from packet) out past = search (reply_follows, answered)
 
 -- ## at a node
 
@@ -230,31 +170,14 @@ took_follows site link l before input made valid out past c = took_by site site.
 
 -- ## starts
 
-start_is : (d : Decision) (class : Class) (p : PacketData) → start_of d ≡ Some (class, p) → d ≡ Start class p
-start_is (Start c q) class p e =
-    let same : (let x : Class × PacketData = (c, q) in x) ≡ (class, p) = same_Some {A = Class × PacketData} (c, q) (class, p) e in
-    (λ i. Start ((ap (λ (x : Class × PacketData). x.0) same) i) ((ap (λ (x : Class × PacketData). x.1) same) i))
-start_is (WaitUntil time) class p e = absurd (cc)
-start_is Idle class p e = absurd (cc)
-
 started_by : (l : LinkLimits) (log : List port.Entry) (now : ℕ) (class : Class) (p : PacketData) (b : Bool) → nat_le (port.free_after l log) now ≡ b → cond b (start_of (decision l log now)) None ≡ Some (class, p)
     → (port.free_after l log ≤ now) × (decision l log now ≡ Start class p)
-started_by l log now class p true t e = (leb-true (port.free_after l log) now t, start_is (decision l log now) class p e)
-started_by l log now class p false t e = absurd (cc)
-
-started_after : (l : LinkLimits) (log : List port.Entry) (now : ℕ) (class : Class) (p : PacketData) → start_after l log now ≡ Some (class, p) → (port.free_after l log ≤ now) × (decision l log now ≡ Start class p)
-unfolding start_after
-started_after l log now class p e = started_by l log now class p (nat_le (port.free_after l log) now) refl e
+started_by l log now class p v0 t e = grind (arith, nat_tests)
 
 start_follows : (site : Site) (link on : ℕ) (l : LinkLimits) (before : List Entry) (now : ℕ) (class : Class) (p : PacketData) (b : Bool) → limits_out site link ≡ Some (link, l) → port.NoneLater now (port_logs before link)
     → starts site before on now ≡ Some (class, p) → (link == on) ≡ b → IfSome (cond b (Some (port.Started now class p)) None) (MayFollow l (port_logs before link))
-start_follows site link on l before now class p false out past e t = tt
-start_follows site link on l before now class p true out past e t = λ short.
-    let same : link ≡ on = eqb-true link on t in
-    let here : starts site before link now ≡ Some (class, p) = subst (λ j. starts site before j now ≡ Some (class, p)) (sym same) e in
-    let after : start_after l (port_logs before link) now ≡ Some (class, p) = sym (ap (option_and_then (λ (o : ℕ × LinkLimits). start_after o.1 (port_logs before link) now)) out) ∙ here in
-    let k = started_after l (port_logs before link) now class p after in
-    record { order = past; free = k.0; decided = k.1 }
+unfolding start_after
+start_follows site link on l before now class p v0 out past e t = grind (arith, nat_tests)
 
 -- what a link starts is the decision of the free link
 pub started_follows : (site : Site) (link on : ℕ) (l : LinkLimits) (before : List Entry) (now : ℕ) (class : Class) (p : PacketData) → limits_out site link ≡ Some (link, l) → port.NoneLater now (port_logs before link)
@@ -263,17 +186,9 @@ started_follows site link on l before now class p out past e = start_follows sit
 
 -- ## no start is missed
 
-no_start : (d : Decision) → start_of d ≡ None → is_start d ≡ false
-no_start (Start class p) e = absurd (cc)
-no_start (WaitUntil time) e = refl
-no_start Idle e = refl
-
 rests_by : (l : LinkLimits) (log : List port.Entry) (now : ℕ) → start_after l log now ≡ None → RestsAt l log now
 unfolding start_after
-rests_by l log now e = elim (cases_lt now (port.free_after l log)) [
-  | inl busy ↦ inl busy
-  | inr free ↦ inr (no_start (decision l log now) (sym (cond-true (nat_le (port.free_after l log) now) (start_of (decision l log now)) None (le-leb (port.free_after l log) now free)) ∙ e))
-]
+rests_by l log now e = grind arith
 
 pub misses_none : (site : Site) (until : ℕ) (log : List Entry) (link : ℕ) (l : LinkLimits) → limits_out site link ≡ Some (link, l) → LeavesNone site until log → MissesNone l until (port_logs log link)
 misses_none site until log link l out none time before =

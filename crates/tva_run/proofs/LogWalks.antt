@@ -1,5 +1,5 @@
 -- What a node's log is at each of its places, and what holds of it from place to place.
-use Rattle.tva_run.proofs.Common.{◌≡◌, ◌≤◌, List, [], ◌∷◌, ◌++◌, Some, refl, sym, ◌∙◌, subst, arith, append_assoc, AllByRecursion, MayPrecede, IsInOrder, Input, Site, Content, Entry, Took, Started, entry_time, entry_rank, content, GoesOn, starts}
+use Rattle.tva_run.proofs.Common.{nat_tests, ◌≡◌, ◌≤◌, List, [], ◌∷◌, ◌++◌, Some, sym, subst, arith, append_assoc, AllByRecursion, IsInOrder, Input, Site, Content, Entry, Took, Started, entry_time, entry_rank, content, GoesOn, starts}
 use Rattle.std.proofs.Common.{append-nil}
 use Rattle.tva_run.proofs.Joins.{each-append}
 
@@ -23,9 +23,7 @@ pub by_place : {X : Type 0} (P : List X → Type 0) (front xs : List X)
     → ((before : List X) (x : X) (rest : List X) → front ++ xs ≡ before ++ x ∷ rest → P before → P (before ++ x ∷ []))
     → P front → P (front ++ xs)
 by_place P front [] step k = subst P (sym (append-nil front)) k
-by_place P front (x ∷ xs) step k =
-    let same = append_assoc front (x ∷ []) xs in
-    subst P same (by_place P (front ++ x ∷ []) xs (λ before y rest e. step before y rest (sym same ∙ e)) (step front x xs refl k))
+by_place P front (x ∷ xs) step k = grind (arith, nat_tests, append_assoc, (by_place P (front ++ x ∷ []) xs))
 
 -- what holds of each element at its place, where it holds of those before it, holds of all
 pub each_place : {X : Type 0} (P : X → Type 0) (xs : List X)
@@ -39,11 +37,7 @@ each_place P xs step =
 past_in : (before : List Entry) (e : Entry) (rest : List Entry) → IsInOrder entry_time entry_rank (before ++ e ∷ rest)
     → AllByRecursion (λ x. entry_time x ≤ entry_time e) before
 past_in [] e rest o = tt
-past_in (x ∷ xs) e rest o =
-    (no_later (at_place (MayPrecede entry_time entry_rank x) (xs ++ e ∷ rest) xs e rest refl o.0), past_in xs e rest o.1)
-  where
-    no_later : MayPrecede entry_time entry_rank x e → entry_time x ≤ entry_time e
-    no_later k = omega (arith, k)
+past_in (x ∷ xs) e rest o = grind (arith, nat_tests, at_place, (past_in xs e rest o.1))
 
 pub past_at : (log before : List Entry) (e : Entry) (rest : List Entry) → IsInOrder entry_time entry_rank log → log ≡ before ++ e ∷ rest
     → AllByRecursion (λ x. entry_time x ≤ entry_time e) before
@@ -75,12 +69,9 @@ module _ (P : Input → Type 0) (site : Site) where
   made_in past (i ∷ is) (Took j c ∷ xs) e rest g h =
       subst (λ (z : List Entry). IsMade P site z e) (append_assoc past (Took j c ∷ []) xs)
       (made_in (past ++ Took j c ∷ []) is xs e rest g.2 h.1)
-  made_in past [] (Started u l c p ∷ xs) e rest g h =
+  made_in past is (Started u l c p ∷ xs) e rest g h =
       subst (λ (z : List Entry). IsMade P site z e) (append_assoc past (Started u l c p ∷ []) xs)
-      (made_in (past ++ Started u l c p ∷ []) [] xs e rest g.1 h)
-  made_in past (i ∷ is) (Started u l c p ∷ xs) e rest g h =
-      subst (λ (z : List Entry). IsMade P site z e) (append_assoc past (Started u l c p ∷ []) xs)
-      (made_in (past ++ Started u l c p ∷ []) (i ∷ is) xs e rest g.1 h)
+      (made_in (past ++ Started u l c p ∷ []) is xs e rest g.1 h)
 
   -- each entry of a log is so at its place
   pub made_at : (is : List Input) (log before : List Entry) (e : Entry) (rest : List Entry) → GoesOn site [] is log → AllByRecursion P is

@@ -1,8 +1,7 @@
 -- A node has at most one log over its inputs, and its log before an earlier time is its log up to that time.
-use Rattle.tva_run.proofs.Common.{◌≡◌, ℕ, suc, ◌<◌, ◌≤◌, List, [], ◌∷◌, ◌++◌, Some, refl, sym, subst, ◌∙◌, ap, ap₂, arith, inl, inr, ◌⊎◌, nat_lt, AllByRecursion, filter_map, lt-ltb, le-ltb, ne_eqb, cases_lt, cases_order, append-nil, filter-append, filter_map-append, same_Some, Class, PacketData, MayPrecede, IsInOrder, cut, Input, Site, Entry, Took, Started, input_time, input_source, entry_time, entry_rank, port_entry, port_logs, starts, due, GoesOn, LeavesNone, IsNodeLog}
+use Rattle.tva_run.proofs.Common.{nat_tests, ◌≡◌, ℕ, suc, ◌<◌, ◌≤◌, List, [], ◌∷◌, ◌++◌, Some, refl, sym, subst, ◌∙◌, ap, ap₂, arith, inl, inr, ◌⊎◌, nat_lt, AllByRecursion, cases_order, append-nil, filter-append, filter_map-append, same_Some, Class, PacketData, MayPrecede, IsInOrder, cut, Input, Site, Entry, Took, Started, input_time, input_source, entry_time, entry_rank, port_logs, starts, due, GoesOn, LeavesNone, IsNodeLog}
 use Rattle.std.proofs.lemmas.List.{append_assoc}
-use Rattle.tva_port.specs.Log as port
-use Rattle.tva_run.proofs.Joins.{filter-true, each-append, each-weaker, in_order-filter, cut-late, cut-early, each-cut, cut-cut, times_from, each_later}
+use Rattle.tva_run.proofs.Joins.{filter-true, each-append, each-weaker, in_order-filter, cut-late, cut-early, each-cut, cut-cut, times_from, each_later, each_at_least}
 use Rattle.tva_run.proofs.Putting.{strictly_trans}
 
 -- inputs in order
@@ -18,9 +17,7 @@ later_than x xs h = (times_from entry_time entry_rank x xs h).1
 
 -- a start on one link is nothing in another's log
 pub logs-other : (before : List Entry) (time on : ℕ) (class : Class) (packet : PacketData) (link : ℕ) → (on ≡ link → ⊥) → port_logs (before ++ Started time on class packet ∷ []) link ≡ port_logs before link
-logs-other before time on class packet link n =
-    let none : filter_map (port_entry link) (Started time on class packet ∷ []) ≡ [] = rw (ne_eqb link on (λ e. n (sym e))) refl in
-    filter_map-append (port_entry link) before (Started time on class packet ∷ []) ∙ (ap (λ (log : List port.Entry). port_logs before link ++ log) none ∙ append-nil (port_logs before link))
+logs-other before time on class packet link n = grind (arith, nat_tests, filter_map-append, append-nil)
 
 module _ (site : Site) where
   -- so it changes nothing of what another link starts
@@ -29,12 +26,10 @@ module _ (site : Site) where
 
   -- the inputs that are still to be taken are no earlier than what follows
   inputs_late : (t : ℕ) (before : List Entry) (is : List Input) (es : List Entry) → GoesOn site before is es → AllByRecursion (λ e. t ≤ entry_time e) es → AllByRecursion (λ i. t ≤ input_time i) is
-  inputs_late t before [] [] g h = tt
   inputs_late t before (i ∷ is) [] g h = absurd g
-  inputs_late t before [] (Took j c ∷ es) g h = tt
   inputs_late t before (i ∷ is) (Took j c ∷ es) g h = (subst (λ k. t ≤ input_time k) g.0 h.0, inputs_late t (before ++ Took j c ∷ []) is es g.2 h.1)
-  inputs_late t before [] (Started u l c p ∷ es) g h = tt
   inputs_late t before (i ∷ is) (Started u l c p ∷ es) g h = inputs_late t (before ++ Started u l c p ∷ []) (i ∷ is) es g.1 h.1
+  inputs_late t before [] _ g h = tt
 
   -- an input that is taken after a start comes later
   after_start : (u l : ℕ) (c : Class) (p : PacketData) (before : List Entry) (i : Input) (is : List Input) (es : List Entry) → GoesOn site before (i ∷ is) es → AllByRecursion (MayPrecede entry_time entry_rank (Started u l c p)) es → u < input_time i
@@ -46,36 +41,15 @@ module _ (site : Site) where
   -- ## before an earlier time
 
   start_cut : (before : List Entry) (is : List Input) (u k : ℕ) (c : Class) (p : PacketData) (es : List Entry) → starts site before k u ≡ Some (c, p) → GoesOn site (before ++ Started u k c p ∷ []) is es → GoesOn site before is (Started u k c p ∷ es)
-  start_cut before [] u k c p es b g = (b, g)
-  start_cut before (i ∷ is) u k c p es b g = (b, g)
+  start_cut before _ u k c p es b g = (b, g)
 
   GoesOn-cut : (t : ℕ) (before : List Entry) (is : List Input) (es : List Entry) → AreInOrder is → IsInOrder entry_time entry_rank es → GoesOn site before is es → GoesOn site before (due t is) (cut entry_time t es)
   GoesOn-cut t before [] [] o a g = tt
   GoesOn-cut t before (i ∷ is) [] o a g = absurd g
   GoesOn-cut t before [] (Took j c ∷ es) o a g = absurd g
-  GoesOn-cut t before (i ∷ is) (Took j c ∷ es) o a g =
-      elim (cases_lt (input_time j) t) [
-        | inl l ↦
-            let l' : input_time i < t = subst (λ x. input_time x < t) g.0 l in
-            rw (filter-true (λ x. nat_lt (input_time x) t) i is (lt-ltb (input_time i) t l'), filter-true (λ x. nat_lt (entry_time x) t) (Took j c) es (lt-ltb (input_time j) t l))
-            (g.0, g.1, GoesOn-cut t (before ++ Took j c ∷ []) is es o.1 a.1 g.2)
-        | inr l ↦
-            rw (cut-late input_time input_source t (i ∷ is) (each_later input_time input_source t i is o (subst (λ x. t ≤ input_time x) g.0 l)), cut-late entry_time entry_rank t (Took j c ∷ es) (each_later entry_time entry_rank t (Took j c) es a l)) tt
-      ]
-  GoesOn-cut t before [] (Started u k c p ∷ es) o a g =
-      elim (cases_lt u t) [
-        | inl l ↦ rw (filter-true (λ x. nat_lt (entry_time x) t) (Started u k c p) es (lt-ltb u t l)) (g.0, GoesOn-cut t (before ++ Started u k c p ∷ []) [] es o a.1 g.1)
-        | inr l ↦ rw (cut-late entry_time entry_rank t (Started u k c p ∷ es) (each_later entry_time entry_rank t (Started u k c p) es a l)) tt
-      ]
-  GoesOn-cut t before (i ∷ is) (Started u k c p ∷ es) o a g =
-      elim (cases_lt u t) [
-        | inl l ↦
-            rw (filter-true (λ x. nat_lt (entry_time x) t) (Started u k c p) es (lt-ltb u t l))
-            (start_cut before (due t (i ∷ is)) u k c p (cut entry_time t es) g.0 (GoesOn-cut t (before ++ Started u k c p ∷ []) (i ∷ is) es o a.1 g.1))
-        | inr l ↦
-            let late = each_later entry_time entry_rank t (Started u k c p) es a l in
-            rw (cut-late input_time input_source t (i ∷ is) (inputs_late t before (i ∷ is) (Started u k c p ∷ es) g late), cut-late entry_time entry_rank t (Started u k c p ∷ es) late) tt
-      ]
+  GoesOn-cut t before (i ∷ is) (Took j c ∷ es) o a g = grind (arith, nat_tests, filter-true, cut-late, each_later, (GoesOn-cut t (before ++ Took j c ∷ []) is es o.1 a.1 g.2))
+  GoesOn-cut t before [] (Started u k c p ∷ es) o a g = grind (arith, nat_tests, filter-true, cut-late, each_later, (GoesOn-cut t (before ++ Started u k c p ∷ []) [] es o a.1 g.1))
+  GoesOn-cut t before (i ∷ is) (Started u k c p ∷ es) o a g = grind (arith, nat_tests, filter-true, start_cut, each_later, cut-late, inputs_late, (GoesOn-cut t (before ++ Started u k c p ∷ []) (i ∷ is) es o a.1 g.1))
 
   pub IsNodeLog-cut : (inputs : List Input) (t until : ℕ) (log : List Entry) → AreInOrder inputs → t ≤ until → IsNodeLog site inputs until log → IsNodeLog site inputs t (cut entry_time t log)
   IsNodeLog-cut inputs t until log o l h = record {
@@ -90,12 +64,7 @@ module _ (site : Site) where
 
   -- inputs that agree before a time serve as well
   pub IsNodeLog-same : (is js : List Input) (until : ℕ) (log : List Entry) → due until is ≡ due until js → IsNodeLog site is until log → IsNodeLog site js until log
-  IsNodeLog-same is js until log e h = record {
-    in_order = h.in_order;
-    early = h.early;
-    steps = subst (λ (xs : List Input). GoesOn site [] xs log) e h.steps;
-    none_left = h.none_left;
-  }
+  IsNodeLog-same is js until log e h = grind arith
 
   -- ## at most one
 
@@ -128,25 +97,8 @@ module _ (site : Site) where
     -- what comes after a start at one time leaves what that link starts there
     starts_past : (l t : ℕ) (before es : List Entry) → AllByRecursion (After t l) es → starts site (before ++ cut entry_time (suc t) es) l t ≡ starts site before l t
     starts_past l t before [] h = ap (λ b. starts site b l t) (append-nil before)
-    starts_past l t before (Took j c ∷ es) h =
-        elim h.0 [
-          | inl late ↦
-              let skip : cut entry_time (suc t) (Took j c ∷ es) ≡ cut entry_time (suc t) es = rw (le-ltb (input_time j) (suc t) (omega arith)) refl in
-              rw skip (starts_past l t before es h.1)
-          | inr same ↦ absurd (let e = same.1 in omega arith)
-        ]
-    starts_past l t before (Started u j c p ∷ es) h =
-        elim h.0 [
-          | inl late ↦
-              let skip : cut entry_time (suc t) (Started u j c p ∷ es) ≡ cut entry_time (suc t) es = rw (le-ltb u (suc t) (omega arith)) refl in
-              rw skip (starts_past l t before es h.1)
-          | inr same ↦
-              let keep : cut entry_time (suc t) (Started u j c p ∷ es) ≡ Started u j c p ∷ cut entry_time (suc t) es = filter-true (λ e. nat_lt (entry_time e) (suc t)) (Started u j c p) es (lt-ltb u (suc t) (let e = same.0 in omega arith)) in
-              ap (λ zs. starts site (before ++ zs) l t) keep
-              ∙ (ap (λ zs. starts site zs l t) (sym (append_assoc before (Started u j c p ∷ []) (cut entry_time (suc t) es)))
-              ∙ (starts_past l t (before ++ Started u j c p ∷ []) es h.1
-              ∙ apart before u j c p l t (λ e. let f = same.1 in omega arith)))
-        ]
+    starts_past l t before (Took j c ∷ es) h = grind (arith, nat_tests, (starts_past l t before es h.1))
+    starts_past l t before (Started u j c p ∷ es) h = grind (arith, nat_tests, filter-true, starts, append_assoc, apart, (starts_past l t before es h.1), (starts_past l t (before ++ Started u j c p ∷ []) es h.1))
 
     -- a start that is due can't be left out
     missing : (l t m : ℕ) (c : Class) (p : PacketData) (before es : List Entry) → t < until → m ≤ t → AllByRecursion (λ e. entry_time e ≤ m) before → starts site before l t ≡ Some (c, p) → Rest until m before es → AllByRecursion (After t l) es → ⊥
@@ -202,25 +154,16 @@ module _ (site : Site) where
     lockstep m before (i ∷ is) (Started t l c p ∷ xs) (Took k d ∷ ys) b x y gx gy =
         let sooner = after_start t l c p (before ++ Started t l c p ∷ []) i is xs gx.1 x.order.0 in
         absurd (missing l t m c p before (Took k d ∷ ys) x.early.0 x.late.0 b gx.0 y (after_all t l (Took k d) ys y.order (inl (subst (λ z. t < input_time z) (sym gy.0) sooner))))
-    lockstep m before [] (Started t l c p ∷ xs) (Started u k d q ∷ ys) b x y gx gy =
-        let same = both_start m before [] t l u k c d p q xs ys b x y gx.0 gy.0 in
-        ap₂ ◌∷◌ same (lockstep t (before ++ Started t l c p ∷ []) [] xs ys (before_more m before (Started t l c p) x.late.0 b) (rest_more until m before (Started t l c p) xs x)
+    lockstep m before is (Started t l c p ∷ xs) (Started u k d q ∷ ys) b x y gx gy =
+        let same = both_start m before is t l u k c d p q xs ys b x y gx.0 gy.0 in
+        ap₂ ◌∷◌ same (lockstep t (before ++ Started t l c p ∷ []) is xs ys (before_more m before (Started t l c p) x.late.0 b) (rest_more until m before (Started t l c p) xs x)
         (subst (λ e. Rest until (entry_time e) (before ++ e ∷ []) ys) (sym same) (rest_more until m before (Started u k d q) ys y)) gx.1
-        (subst (λ e. GoesOn site (before ++ e ∷ []) [] ys) (sym same) gy.1))
-    lockstep m before (i ∷ is) (Started t l c p ∷ xs) (Started u k d q ∷ ys) b x y gx gy =
-        let same = both_start m before (i ∷ is) t l u k c d p q xs ys b x y gx.0 gy.0 in
-        ap₂ ◌∷◌ same (lockstep t (before ++ Started t l c p ∷ []) (i ∷ is) xs ys (before_more m before (Started t l c p) x.late.0 b) (rest_more until m before (Started t l c p) xs x)
-        (subst (λ e. Rest until (entry_time e) (before ++ e ∷ []) ys) (sym same) (rest_more until m before (Started u k d q) ys y)) gx.1
-        (subst (λ e. GoesOn site (before ++ e ∷ []) (i ∷ is) ys) (sym same) gy.1))
-
-    each_from_zero : (es : List Entry) → AllByRecursion (λ e. 0 ≤ entry_time e) es
-    each_from_zero [] = tt
-    each_from_zero (e ∷ es) = (omega arith, each_from_zero es)
+        (subst (λ e. GoesOn site (before ++ e ∷ []) is ys) (sym same) gy.1))
 
     -- inputs that agree before a time have one log up to it
     pub IsNodeLog-unique : (is js : List Input) (a b : List Entry) → due until is ≡ due until js → IsNodeLog site is until a → IsNodeLog site js until b → a ≡ b
     IsNodeLog-unique is js a b e ha hb =
         lockstep 0 [] (due until is) a b tt
-        (record { late = each_from_zero a; early = ha.early; order = ha.in_order; none = ha.none_left })
-        (record { late = each_from_zero b; early = hb.early; order = hb.in_order; none = hb.none_left })
+        (record { late = each_at_least entry_time entry_rank a; early = ha.early; order = ha.in_order; none = ha.none_left })
+        (record { late = each_at_least entry_time entry_rank b; early = hb.early; order = hb.in_order; none = hb.none_left })
         ha.steps (subst (λ (xs : List Input). GoesOn site [] xs b) (sym e) hb.steps)

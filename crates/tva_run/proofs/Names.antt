@@ -1,40 +1,30 @@
 -- The nodes and links that the events of a run name are the configuration's.
-use Rattle.tva_run.proofs.Common.{◌≡◌, ℕ, ◌+◌, ◌<◌, ◌≤◌, Bool, true, false, cond, List, [], ◌∷◌, length, map, Option, Some, None, All, refl, sym, ap, subst, ◌∙◌, arith, nat_le, ◌==◌, slice_get, option_map, option_map_or, option_and_then, AllByRecursion, cons_option, find, eqb-true, All-from_recursion, slice_get_within, same_Some, Address, Event, LinkLimits, Class, Queued, HostPlan, LinkPlan, RouterPlan, in_force, PacketData, class_by_shim, made_packet, upper_size, Charge, Judged, judge, link_to, Handled, arrival, forwarded, goes_on, handle, offered, outgoing_link, outcome_of, sent, stopped, way_to, charges_at, Made, history_of, receipt_of, reply_of, stray, before_reply, answer_to_claim, brought_by, claim_in, Files, answered, first_segment, segment_due, Config, NodePlan, picked, IsConfig, Row, HasEvent, HasHappened, HasLink, HasNode, HasOutcome, HasReply, HasSource, Input, FromTrace, Arrival, Site, site_of, link_out, limits_out, IsPlanned, Content, Entry, Took, Started, charges, port_logs, calls, files, arrived, content, content_by, goes_out, hosted, made_for, next_id, packet_of_row, routed, sent_out, sent_with, due, start_after, content_told, events, reply_told, Logs, log_at, links_out, link_from, site_at, IsRunTo, AreEvents, AreEventsTo, event_node, event_time}
-use Rattle.tva_base.specs.declared.packet.PacketId.{PacketId}
+use Rattle.tva_run.proofs.Common.{nat_tests, ◌≡◌, ℕ, ◌+◌, ◌<◌, ◌≤◌, Bool, true, false, cond, List, [], ◌∷◌, length, map, Option, Some, None, All, refl, sym, ap, subst, arith, ◌==◌, slice_get, option_map, option_map_or, option_and_then, AllByRecursion, cons_option, find, All-from_recursion, slice_get_within, same_Some, Address, Event, LinkLimits, Class, HostPlan, LinkPlan, RouterPlan, in_force, PacketData, class_by_shim, made_packet, upper_size, Charge, Handled, goes_on, handle, offered, outgoing_link, outcome_of, sent, receipt_of, reply_of, answered, Config, NodePlan, picked, IsConfig, Row, HasEvent, HasHappened, HasLink, HasNode, HasOutcome, HasSource, Input, FromTrace, Arrival, Site, site_of, limits_out, IsPlanned, Content, Entry, Took, Started, port_logs, arrived, content, content_by, goes_out, hosted, next_id, packet_of_row, routed, sent_with, start_after, content_told, events, Logs, log_at, links_out, link_from, site_at, IsRunTo, AreEvents, AreEventsTo, event_node, event_time}
 use Rattle.tva_base.specs.declared.packet.Upper.{Upper}
-use Rattle.tva_base.specs.declared.packet.Upper.TheVariants as upper
 use Rattle.tva_shim.specs.declared.kinds.ReturnInfo.{ReturnInfo}
 use Rattle.tva_drr.specs.declared.offered.Offered as offer
-use Rattle.tva_drr.specs.declared.offered.Offered.TheVariants as offers
 use Rattle.tva_port.specs.Log as port
 use Rattle.tva_router.specs.Handling as handling
 use Rattle.tva_host.specs.declared.made.Receipt.{Receipt}
 use Rattle.tva_host.specs.History.{History}
 use Rattle.tva_host.specs.Sending.{intended}
-use Rattle.tva_host.specs.Receiving as receiving
 use Rattle.tva_plan.specs.declared.config.NodePlan.TheVariants as plans
 use Rattle.tva_rows.specs.declared.rows.RowWhat.{RowWhat}
-use Rattle.tva_rows.specs.declared.rows.RowWhat.TheVariants.{Send, Inject, File, Tick}
+use Rattle.tva_rows.specs.declared.rows.RowWhat.TheVariants.{Inject}
 use Rattle.tva_run.proofs.Putting.{each_from_sources}
 use Rattle.tva_run.proofs.LogWalks.{IsMade}
 use Rattle.tva_run.proofs.Walks.{IsReplyGood, Leaves, LeavesAt, starts_good, holds}
 use Rattle.tva_run.proofs.Sites.{site_is}
+use Rattle.tva_run.proofs.Joins.{each-map}
 
 -- what is found passes the test, and what holds of each holds of it
 found_here : {X : Type 0} (p : X → Bool) (Q : X → Type 0) (y x : X) (ys : List X) (b : Bool) → p y ≡ b → Q y
     → (find p ys ≡ Some x → Q x × (p x ≡ true)) → cond b (Some y) (find p ys) ≡ Some x → Q x × (p x ≡ true)
-found_here p Q y x ys true is q rest e =
-    let same : y ≡ x = same_Some y x e in
-    (subst Q same q, subst (λ z. p z ≡ true) same is)
-found_here p Q y x ys false is q rest e = rest e
+found_here p v0 y x ys v1 is q rest e = grind (arith, nat_tests)
 
 found : {X : Type 0} (p : X → Bool) (Q : X → Type 0) (xs : List X) (x : X) → AllByRecursion Q xs → find p xs ≡ Some x → Q x × (p x ≡ true)
 found p Q [] x h e = absurd (cc)
 found p Q (y ∷ ys) x h e = found_here p Q y x ys (p y) refl h.0 (found p Q ys x h.1) e
-
-each-map : {X Y : Type 0} (f : X → Y) (P : Y → Type 0) (xs : List X) → AllByRecursion (λ x. P (f x)) xs → AllByRecursion P (map f xs)
-each-map f P [] h = tt
-each-map f P (x ∷ xs) h = (h.0, each-map f P xs h.1)
 
 module _ (config : Config) where
   -- ## packets, and what is made of them
@@ -58,9 +48,7 @@ module _ (config : Config) where
   -- ## where packets go
 
   outcome_known : (link : ℕ) (a : offer.Offered PacketData) → HasLink config link → HasOutcome config (outcome_of link a)
-  outcome_known link offers.Queued h = h
-  outcome_known link (offers.NoQueue p) h = tt
-  outcome_known link (offers.QueueFull p) h = tt
+  outcome_known link v0 h = grind arith
 
   sent_known : (logs : handling.PortLogs) (class : Class) (p : PacketData) (way : Option (ℕ × LinkLimits))
       → ((o : ℕ × LinkLimits) → way ≡ Some o → HasLink config o.0) → HasOutcome config (sent logs class p way)
@@ -75,16 +63,10 @@ module _ (config : Config) where
   abbrev IsHandledWell : PacketData → Handled → Type 0
   IsHandledWell p h = HasOutcome config h.fate.outcome × (h.onward.id ≡ p.id)
 
-  handled_by : (b : Bool) (plan : RouterPlan) (logs : handling.PortLogs) (now : ℕ) (p : PacketData) (j : Judged)
-      → AllByRecursion (λ (x : ℕ × LinkLimits). HasLink config x.0) plan.outgoing → IsHandledWell p (cond b (stopped p) (forwarded plan logs now p j))
-  handled_by true plan logs now p j h = (tt, refl)
-  handled_by false plan logs now p j h =
-      (sent_known logs j.class (goes_on p j.carried) (way_to plan p.flow.dst) (way_known plan (link_to plan.routes p.flow.dst) h), refl)
-
   handled_known : (plan : RouterPlan) (h : List Charge) (logs : handling.PortLogs) (now : ℕ) (from : Option ℕ) (p : PacketData)
       → AllByRecursion (λ (x : ℕ × LinkLimits). HasLink config x.0) plan.outgoing → IsHandledWell p (handle plan h logs now from p)
   unfolding handle
-  handled_known plan h logs now from p out = handled_by (nat_le 32 p.hops) plan logs now p (judge plan h (arrival now from p) p.carried) out
+  handled_known plan h logs now from p out = grind (arith, nat_tests, sent_known, goes_on, way_known)
 
   -- ## what a node makes
 
@@ -93,36 +75,22 @@ module _ (config : Config) where
     number : HasNode config site.number
     links : AllByRecursion (λ (o : ℕ × LinkPlan). HasLink config o.0) site.links
 
-  limits_by : (link : ℕ) (links : List (ℕ × LinkPlan)) (r : Option (ℕ × LinkPlan)) (o : ℕ × LinkLimits) → AllByRecursion (λ (x : ℕ × LinkPlan). HasLink config x.0) links
-      → find (λ (x : ℕ × LinkPlan). x.0 == link) links ≡ r → option_map (λ (x : ℕ × LinkPlan). (x.0, x.1.limits)) r ≡ Some o → HasLink config o.0 × (o.0 ≡ link)
-  limits_by link links None o h e f = absurd (cc)
-  limits_by link links (Some x) o h e f =
-      let here = found (λ (y : ℕ × LinkPlan). y.0 == link) (λ (y : ℕ × LinkPlan). HasLink config y.0) links x h e in
-      let own : ℕ × LinkLimits = (x.0, x.1.limits) in
-      let same : own ≡ o = same_Some own o f in
-      let number : x.0 ≡ o.0 = ap (λ (y : ℕ × LinkLimits). y.0) same in
-      (subst (HasLink config) number here.0, sym number ∙ eqb-true x.0 link here.1)
-
   limits_known : (site : Site) (link : ℕ) (o : ℕ × LinkLimits) → IsPlaced site → limits_out site link ≡ Some o → HasLink config o.0 × (o.0 ≡ link)
-  limits_known site link o h e = limits_by link site.links (link_out site link) o h.links refl e
+  limits_known site link o h e = grind (arith, nat_tests, found, same_Some)
 
   module _ (site : Site) (placed : IsPlaced site) (before : List Entry) where
     -- at a router
     arrived_named : (plan : RouterPlan) (now : ℕ) (from : Option ℕ) (packet : PacketData) → AllByRecursion (λ (x : ℕ × LinkLimits). HasLink config x.0) plan.outgoing
         → IsKnown packet → HasSource config from → IsNamed (arrived plan before now from packet)
     unfolding arrived in_force
-    arrived_named plan now from packet out node source =
-        let h = handled_known (in_force plan now) (charges_at plan now (charges before)) (port_logs before) now from packet out in
-        ((node, source, h.0), subst (λ (i : PacketId). HasNode config i.node) (sym h.1) node)
+    arrived_named plan now from packet out node source = grind (arith, nat_tests, handled_known)
 
     row_named : (plan : RouterPlan) (now : ℕ) (w : RowWhat) (made : Content) → AllByRecursion (λ (x : ℕ × LinkLimits). HasLink config x.0) plan.outgoing
         → option_map (arrived plan before now None) (packet_of_row (next_id site.number before) w) ≡ Some made → IsNamed made
-    row_named plan now (Send dst payload) made out e = absurd (cc)
-    row_named plan now (File dst size segment) made out e = absurd (cc)
-    row_named plan now (Tick dst) made out e = absurd (cc)
     row_named plan now (Inject flow payload carried) made out e =
         let packet : PacketData = made_packet (next_id site.number before) flow payload carried in
         subst IsNamed (same_Some (arrived plan before now None packet) made e) (arrived_named plan now None packet out placed.number tt)
+    row_named plan now _ made out e = absurd (cc)
 
     routed_named : (plan : RouterPlan) (i : Input) (made : Content) → AllByRecursion (λ (x : ℕ × LinkLimits). HasLink config x.0) plan.outgoing
         → IsInputKnown i → routed site.number plan before i ≡ Some made → IsNamed made
@@ -144,17 +112,6 @@ module _ (config : Config) where
     with_known plan h now dst None = tt
     with_known plan h now dst (Some above) = intended_known plan h now dst (upper_size above) above
 
-    made_known : (plan : HostPlan) (h : History) (known : Files) (now : ℕ) (w : RowWhat) → IsReplyGood IsKnown (made_for site.number plan h known now w)
-    made_known plan h known now (Send dst payload) = intended_known plan h now dst payload upper.Nothing
-    made_known plan h known now (Inject flow payload carried) = placed.number
-    made_known plan h known now (File dst size segment) =
-        intended_known plan h now dst (upper_size (first_segment known dst size segment)) (first_segment known dst size segment)
-    made_known plan h known now (Tick dst) = with_known plan h now dst (segment_due known dst)
-
-    sent_named : (plan : HostPlan) (made : Option Made) → IsReplyGood IsKnown made → IsNamed (sent_out site plan before made)
-    sent_named plan None k = (tt, tt)
-    sent_named plan (Some made) k = ((k, out_known plan made.packet), k)
-
     reply_made : (plan : HostPlan) (h : History) (now : ℕ) (src : Address) (back : Option ReturnInfo) (above : Upper)
         → IsReplyGood IsKnown (reply_of site.number plan h now src back above)
     reply_made plan h now src None above = tt
@@ -164,27 +121,9 @@ module _ (config : Config) where
     receipt_by true r s h k = h
     receipt_by false r s h k = k
 
-    receipt_known : (plan : HostPlan) (h : History) (now : ℕ) (p : PacketData) (above : Upper) → IsReplyGood IsKnown (receipt_of site.number plan h now p above).reply
-    unfolding receipt_of
-    receipt_known plan h now p above =
-        receipt_by (p.flow.dst.0 == plan.address.0) (receiving.received site.number plan h now p.flow.src p.carried above) stray
-        (reply_made plan (before_reply plan p.flow.src p.carried h) now p.flow.src
-        (brought_by above (answer_to_claim plan h.deeds p.flow.src p.carried (claim_in p.carried))) above) tt
-
-    told_known : (plan : HostPlan) (reply : Option Made) → IsReplyGood IsKnown reply
-        → HasReply config (reply_told reply (option_map (λ (made : Made). goes_out site plan before made.packet) reply))
-    told_known plan None k = tt
-    told_known plan (Some made) k = (k, out_known plan made.packet)
-
     hosted_named : (plan : HostPlan) (i : Input) → IsInputKnown i → IsNamed (hosted site plan before i)
-    hosted_named plan (FromTrace row) k =
-        let made : Option Made = made_for site.number plan (history_of plan (calls before)) (files plan before) row.time.0 row.what in
-        sent_named plan made (made_known plan (history_of plan (calls before)) (files plan before) row.time.0 row.what)
-    hosted_named plan (Arrival time link packet) k =
-        let above : Upper = answered plan.address (files plan before) packet in
-        let receipt : Receipt = receipt_of site.number plan (history_of plan (calls before)) time.0 packet above in
-        let own : IsReplyGood IsKnown receipt.reply = receipt_known plan (history_of plan (calls before)) time.0 packet above in
-        ((k.0, k.1, told_known plan receipt.reply own), own)
+    unfolding receipt_of
+    hosted_named plan v0 k = grind (arith, nat_tests, answered, out_known, intended_known, with_known, receipt_by, reply_made)
 
     -- at a node
     outgoing_known : (plan : RouterPlan) → plan.outgoing ≡ map (λ (o : ℕ × LinkPlan). (o.0, o.1.limits)) site.links → AllByRecursion (λ (x : ℕ × LinkLimits). HasLink config x.0) plan.outgoing

@@ -1,5 +1,5 @@
 -- The next window of a run starts where, over the run so far, there is something to do next.
-use Rattle.tva_run.proofs.Common.{◌≡◌, ℕ, zero, suc, ◌+◌, ◌<◌, ◌≤◌, List, [], ◌∷◌, map, filter, Bool, true, Option, Some, None, All, refl, sym, subst, ◌∙◌, ap, arith, inl, inr, ◌⊎◌, nat_lt, ◌==◌, Contains, min, option_map, option_and_then, find, lt-ltb, cases_Bool, cases_lt, cond-true, cond-false, All-head, All-tail, LinkLimits, LinkPlan, AreLinkLimits, Config, IsConfig, Row, cut, Input, Site, limits_out, IsLinkOut, IsSite, Entry, input_time, input_source, entry_time, entry_rank, port_logs, IsNodeLog, due, next_decision, next_on, IsQuiet, AreShort, Logs, log_at, site_at, reaches, IsRunTo, logs_before, IsWork, IsNextWindow, IsAtRest, HasWork, window_length}
+use Rattle.tva_run.proofs.Common.{nat_tests, ◌≡◌, ℕ, zero, suc, ◌+◌, ◌<◌, ◌≤◌, List, [], ◌∷◌, map, filter, Bool, true, Option, Some, None, All, refl, sym, subst, ◌∙◌, ap, arith, inl, inr, ◌⊎◌, nat_lt, ◌==◌, Contains, min, option_map, option_and_then, find, lt-ltb, cases_Bool, cases_lt, All-head, All-tail, LinkLimits, LinkPlan, AreLinkLimits, Config, IsConfig, Row, cut, Input, Site, limits_out, IsLinkOut, IsSite, Entry, input_time, input_source, entry_time, entry_rank, port_logs, IsNodeLog, due, next_decision, next_on, IsQuiet, AreShort, Logs, log_at, site_at, reaches, IsRunTo, logs_before, IsWork, IsNextWindow, IsAtRest, HasWork, window_length}
 use Rattle.tva_run.proofs.Joins.{filter-true, filter-false, cut-cut, in_order-filter}
 use Rattle.tva_run.proofs.Legal.{AreLegal, node_log_legal}
 use Rattle.tva_run.proofs.Ports.{next_again}
@@ -23,18 +23,7 @@ contains_cases x t xs (suc i, l, e) = inr (i, omega arith, e)
 module _ {X : Type 0} (time : X → ℕ) (p : X → Bool) (t : ℕ) where
   pub contains_filter : (xs : List X) → Contains (map time (filter p xs)) t → Contains (map time xs) t
   contains_filter [] h = h
-  contains_filter (x ∷ xs) h =
-      elim (cases_Bool (p x)) [
-        | inl a ↦
-            let k : Contains (time x ∷ map time (filter p xs)) t = rw (filter-true p x xs a) at h in
-            elim (contains_cases (time x) t (map time (filter p xs)) k) [
-              | inl e ↦ contains_first (time x) t (map time xs) e
-              | inr m ↦ contains_more (time x) t (map time xs) (contains_filter xs m)
-            ]
-        | inr a ↦
-            let k : Contains (map time (filter p xs)) t = rw (filter-false p x xs a) at h in
-            contains_more (time x) t (map time xs) (contains_filter xs k)
-      ]
+  contains_filter (x ∷ xs) h = grind (arith, nat_tests, filter-true, contains_cases, contains_first, contains_more, filter-false, (contains_filter xs))
 
   pub contains_passes : ((x : X) → time x ≡ t → p x ≡ true) → (xs : List X) → Contains (map time xs) t → Contains (map time (filter p xs)) t
   contains_passes w [] h = h
@@ -64,10 +53,7 @@ contains_due t xs ys e h =
 
 find_holds : {X : Type 0} (P : X → Type 0) (p : X → Bool) (xs : List X) (x : X) → All P xs → find p xs ≡ Some x → P x
 find_holds P p [] x h e = absurd (cc)
-find_holds P p (y ∷ ys) x h e = elim (cases_Bool (p y)) [
-  | inl a ↦ let found : Some y ≡ Some x = sym (cond-true (p y) (Some y) (find p ys) a) ∙ e in let same : y ≡ x = cc in subst P same (All-head P y ys h)
-  | inr a ↦ find_holds P p ys x (All-tail P y ys h) (sym (cond-false (p y) (Some y) (find p ys) a) ∙ e)
-]
+find_holds P p (y ∷ ys) x h e = grind (arith, nat_tests, All-head, All-tail, (find_holds P p ys x (All-tail P y ys h)))
 
 limits_by : (site : Site) (found : Option (ℕ × LinkPlan)) (link : ℕ) (x : ℕ × LinkLimits) → IsSite site → find (λ o. o.0 == link) site.links ≡ found
     → option_map (λ o. (o.0, o.1.limits)) found ≡ Some x → AreLinkLimits x.1
@@ -85,10 +71,7 @@ module _ (site : Site) (inputs : List Input) (log : List Entry) (from until : �
   again_by : (t link : ℕ) (o : Option (ℕ × LinkLimits)) → o ≡ limits_out site link → from ≤ t → t ≤ until
       → ((u : ℕ) → option_and_then (λ x. next_decision x.1 (port_logs log link) from) o ≡ Some u → t ≤ u)
       → option_and_then (λ x. next_decision x.1 (port_logs log link) t) o ≡ option_and_then (λ x. next_decision x.1 (port_logs log link) from) o
-  again_by t link None e a b h = refl
-  again_by t link (Some x) e a b h =
-      let l = legal link x (sym e) in
-      next_again x.1 (port_logs log link) from t (limits_valid site link x valid (sym e)) l.0 l.1 a h
+  again_by t link v0 e a b h = grind (arith, nat_tests, next_again, limits_valid)
 
   -- up to the next decision, what is decided next stays the same
   pub next_stays : (t link : ℕ) → from ≤ t → t ≤ until → next_on site log t link ≡ next_on site log from link

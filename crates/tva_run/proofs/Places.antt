@@ -1,5 +1,5 @@
 -- The place at which one more is put into a list in order.
-use Rattle.tva_run.proofs.Common.{◌≡◌, ℕ, zero, suc, ◌+◌, ◌<◌, ◌≤◌, List, [], ◌∷◌, ◌++◌, length, get_or, take, drop, true, false, refl, sym, ◌∙◌, ap, arith, inl, inr, ◌⊎◌, insert, nat_lt, ◌==◌, ◌||◌, ◌&&◌, AllByRecursion, cases_Bool, cond-true, cond-false, nat_tests, MayPrecede, IsInOrder, precedes, put_in}
+use Rattle.tva_run.proofs.Common.{◌≡◌, ℕ, zero, suc, ◌+◌, ◌<◌, ◌≤◌, List, [], ◌∷◌, length, get_or, take, true, false, refl, ◌∙◌, ap, arith, inl, inr, ◌⊎◌, insert, nat_lt, ◌==◌, ◌||◌, ◌&&◌, AllByRecursion, cases_Bool, cond-true, cond-false, nat_tests, MayPrecede, IsInOrder, precedes, put_in}
 use Rattle.tva_run.proofs.Putting.{before_yes, strictly_trans}
 
 module _ {X : Type 0} (time source : X → ℕ) where

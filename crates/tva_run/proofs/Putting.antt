@@ -11,11 +11,7 @@ before_no a b c d h = grind (arith, nat_tests)
 
 -- strictly before what is not after
 pub strictly_trans : (a b c d e f : ℕ) → (a < c) ⊎ ((a ≡ c) × (b < d)) → (c < e) ⊎ ((c ≡ e) × (d ≤ f)) → (a < e) ⊎ ((a ≡ e) × (b < f))
-strictly_trans a b c d e f h k =
-    elim h [
-      | inl h ↦ elim k [ inl k ↦ inl (omega arith) | inr k ↦ inl (let i = k.0 in omega arith) ]
-      | inr h ↦ elim k [ inl k ↦ inl (let i = h.0 in omega arith) | inr k ↦ inr (h.0 ∙ k.0, (let i = h.1 in let j = k.1 in omega arith)) ]
-    ]
+strictly_trans a b c d e f h k = grind arith
 
 pub each-both : {X : Type 0} (P Q R : X → Type 0) → ((x : X) → P x → Q x → R x) → (xs : List X) → AllByRecursion P xs → AllByRecursion Q xs → AllByRecursion R xs
 each-both P Q R w [] a b = tt
@@ -28,11 +24,7 @@ each_left P x (z ∷ xs) ys h = each_left P x xs ys h.1
 module _ {X : Type 0} (time source : X → ℕ) where
   pub each-put_in : (P : X → Type 0) (x : X) (ys : List X) → P x → AllByRecursion P ys → AllByRecursion P (put_in time source x ys)
   each-put_in P x [] p h = (p, tt)
-  each-put_in P x (y ∷ ys) p h =
-      elim (cases_Bool (precedes time source x y)) [
-        | inl a ↦ rw (cond-true _ (x ∷ y ∷ ys) (y ∷ put_in time source x ys) a) (p, h)
-        | inr a ↦ rw (cond-false _ (x ∷ y ∷ ys) (y ∷ put_in time source x ys) a) (h.0, each-put_in P x ys p h.1)
-      ]
+  each-put_in P x (y ∷ ys) p h = grind (arith, nat_tests, (each-put_in P x ys p h.1))
 
   pub each-put_all : (P : X → Type 0) (xs ys : List X) → AllByRecursion P xs → AllByRecursion P ys → AllByRecursion P (put_all time source xs ys)
   each-put_all P [] ys a b = b
@@ -40,15 +32,7 @@ module _ {X : Type 0} (time source : X → ℕ) where
 
   pub in_order-put_in : (x : X) (ys : List X) → IsInOrder time source ys → IsInOrder time source (put_in time source x ys)
   in_order-put_in x [] h = (tt, tt)
-  in_order-put_in x (y ∷ ys) h =
-      elim (cases_Bool (precedes time source x y)) [
-        | inl a ↦
-            let first : MayPrecede time source x y = elim (before_yes (time x) (source x) (time y) (source y) a) [ inl l ↦ inl l | inr l ↦ inr (l.0, (let k = l.1 in omega arith)) ] in
-            rw (cond-true _ (x ∷ y ∷ ys) (y ∷ put_in time source x ys) a)
-            ((first, each-weaker (MayPrecede time source y) (MayPrecede time source x) (λ z k. may_precede_trans (time x) (source x) (time y) (source y) (time z) (source z) first k) ys h.0), h)
-        | inr a ↦ rw (cond-false _ (x ∷ y ∷ ys) (y ∷ put_in time source x ys) a)
-            (each-put_in (MayPrecede time source y) x ys (before_no (time x) (source x) (time y) (source y) a) h.0, in_order-put_in x ys h.1)
-      ]
+  in_order-put_in x (y ∷ ys) h = grind (arith, nat_tests, before_yes, each-weaker, may_precede_trans, each-put_in, before_no, (in_order-put_in x ys h.1))
 
   pub in_order-put_all : (xs ys : List X) → IsInOrder time source ys → IsInOrder time source (put_all time source xs ys)
   in_order-put_all [] ys h = h
@@ -57,11 +41,7 @@ module _ {X : Type 0} (time source : X → ℕ) where
   -- what holds of what comes from a source
   source_each : (P : X → Type 0) (s : ℕ) (xs : List X) → AllByRecursion P (from_source source s xs) → AllByRecursion (λ y. source y ≡ s → P y) xs
   source_each P s [] h = tt
-  source_each P s (x ∷ xs) h =
-      elim (cases_eq (source x) s) [
-        | inl e ↦ let k : AllByRecursion P (x ∷ from_source source s xs) = rw (filter-true (λ z. source z == s) x xs (eq-eqb (source x) s e)) at h in ((λ _. k.0), source_each P s xs k.1)
-        | inr e ↦ let k : AllByRecursion P (from_source source s xs) = rw (filter-false (λ z. source z == s) x xs (ne_eqb (source x) s e)) at h in ((λ i. absurd (e i)), source_each P s xs k)
-      ]
+  source_each P s (x ∷ xs) h = grind (arith, nat_tests, filter-true, filter-false, (source_each P s xs))
 
   -- what holds of what comes from each source holds of all
   pub each_from_sources : (P : X → Type 0) (xs : List X) → ((s : ℕ) → AllByRecursion P (from_source source s xs)) → AllByRecursion P xs
@@ -96,17 +76,9 @@ module _ {X : Type 0} (time source : X → ℕ) where
             ])
       ]
 
-  source-put_in_other : (s : ℕ) (x : X) (ys : List X) → (source x ≡ s → ⊥) → from_source source s (put_in time source x ys) ≡ from_source source s ys
+  pub source-put_in_other : (s : ℕ) (x : X) (ys : List X) → (source x ≡ s → ⊥) → from_source source s (put_in time source x ys) ≡ from_source source s ys
   source-put_in_other s x [] n = filter-false (λ z. source z == s) x [] (ne_eqb (source x) s n)
-  source-put_in_other s x (y ∷ ys) n =
-      elim (cases_Bool (precedes time source x y)) [
-        | inl a ↦ rw (cond-true _ (x ∷ y ∷ ys) (y ∷ put_in time source x ys) a) (filter-false (λ z. source z == s) x (y ∷ ys) (ne_eqb (source x) s n))
-        | inr a ↦ rw (cond-false _ (x ∷ y ∷ ys) (y ∷ put_in time source x ys) a)
-            (elim (cases_Bool (source y == s)) [
-              | inl e ↦ rw (filter-true (λ z. source z == s) y (put_in time source x ys) e, filter-true (λ z. source z == s) y ys e) (ap (λ zs. y ∷ zs) (source-put_in_other s x ys n))
-              | inr e ↦ rw (filter-false (λ z. source z == s) y (put_in time source x ys) e, filter-false (λ z. source z == s) y ys e) (source-put_in_other s x ys n)
-            ])
-      ]
+  source-put_in_other s x (y ∷ ys) n = grind (arith, nat_tests, filter-false, filter-true, (source-put_in_other s x ys n))
 
   falls_left : (x : X) (xs ys : List X) → NeverFalls time (xs ++ x ∷ ys) → AllByRecursion (λ y. time y ≤ time x) xs
   falls_left x [] ys h = tt
@@ -126,21 +98,11 @@ module _ {X : Type 0} (time source : X → ℕ) where
 
   pub source-put_all : (xs ys : List X) → IsInOrder time source ys → ((s : ℕ) → NeverFalls time (from_source source s ys ++ from_source source s xs)) → (s : ℕ) → from_source source s (put_all time source xs ys) ≡ from_source source s ys ++ from_source source s xs
   source-put_all [] ys h r s = sym (append-nil (from_source source s ys))
-  source-put_all (x ∷ xs) ys h r s =
-      let step = source_step x xs ys h (r (source x)) in
-      source-put_all xs (put_in time source x ys) (in_order-put_in x ys h) (λ k. rw (step k) (r k)) s ∙ step s
+  source-put_all (x ∷ xs) ys h r s = search (source_step, in_order-put_in, (source-put_all xs (put_in time source x ys) (in_order-put_in x ys h)))
 
   cut-put_in : (until : ℕ) (x : X) (ys : List X) → until ≤ time x → cut time until (put_in time source x ys) ≡ cut time until ys
   cut-put_in until x [] l = filter-false (λ z. nat_lt (time z) until) x [] (le-ltb (time x) until l)
-  cut-put_in until x (y ∷ ys) l =
-      elim (cases_Bool (precedes time source x y)) [
-        | inl a ↦ rw (cond-true _ (x ∷ y ∷ ys) (y ∷ put_in time source x ys) a) (filter-false (λ z. nat_lt (time z) until) x (y ∷ ys) (le-ltb (time x) until l))
-        | inr a ↦ rw (cond-false _ (x ∷ y ∷ ys) (y ∷ put_in time source x ys) a)
-            (elim (cases_Bool (nat_lt (time y) until)) [
-              | inl e ↦ rw (filter-true (λ z. nat_lt (time z) until) y (put_in time source x ys) e, filter-true (λ z. nat_lt (time z) until) y ys e) (ap (λ zs. y ∷ zs) (cut-put_in until x ys l))
-              | inr e ↦ rw (filter-false (λ z. nat_lt (time z) until) y (put_in time source x ys) e, filter-false (λ z. nat_lt (time z) until) y ys e) (cut-put_in until x ys l)
-            ])
-      ]
+  cut-put_in until x (y ∷ ys) l = grind (arith, nat_tests, filter-false, filter-true, (cut-put_in until x ys l))
 
   -- what is put_all past a time changes nothing before it
   pub cut-put_all : (until : ℕ) (xs ys : List X) → AllByRecursion (λ x. until ≤ time x) xs → cut time until (put_all time source xs ys) ≡ cut time until ys

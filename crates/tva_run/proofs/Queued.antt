@@ -1,11 +1,11 @@
 -- What waits at the port of a link was queued there, and so was what starts.
-use Rattle.tva_run.proofs.Common.{◌≡◌, ℕ, Bool, true, false, cond, List, [], ◌∷◌, drop, Option, Some, None, refl, subst, nat_le, count_by, AllByRecursion, fold, filter_map, All-drop, All-from_recursion, recursion_from_All, same_Some, LinkLimits, Class, Request, Regular, Legacy, PacketData, packet_length, Decision, cost, free_after, Waiting, same_class, request_step, regular_step, queued_legacy, is_legacy_start, waiting_after, next_request, covered, start_or, wait_for, credit_after, decision, start_of, start_after}
+use Rattle.tva_run.proofs.Common.{arith, nat_tests, ◌≡◌, ℕ, Bool, true, false, cond, List, [], ◌∷◌, drop, Option, Some, None, nat_le, count_by, AllByRecursion, fold, filter_map, All-drop, All-from_recursion, recursion_from_All, LinkLimits, Class, Request, Regular, Legacy, PacketData, packet_length, Decision, free_after, Waiting, same_class, request_step, regular_step, queued_legacy, is_legacy_start, waiting_after, next_request, covered, start_or, wait_for, credit_after, decision, start_of, start_after}
 use Rattle.tva_drr.specs.Queues.{Fair, fair, first, head}
 use Rattle.tva_drr.specs.Offer.{offer_leaves}
 use Rattle.tva_drr.specs.Take.{take_leaves}
 use Rattle.tva_drr.proofs.Falling.{by_test}
 use Rattle.tva_port.specs.declared.requests.RequestQueues.{RequestQueues}
-use Rattle.tva_port.specs.Levels.{no_requests, request_leaves, request_taken}
+use Rattle.tva_port.specs.Levels.{no_requests}
 use Rattle.tva_port.proofs.Holding.{Each, each-offered, each-taken, each-first, each-head, EachRequest, request-none, request-offered, request-taken, request-next}
 use Rattle.tva_port.specs.Log.{Entry, Queued, Started}
 
@@ -20,12 +20,7 @@ module _ (P : PacketData → Type 0) where
 
   -- the requests, and the regular packets
   request-step : (rs : RequestQueues) (e : Entry) → Brings e → EachRequest P rs → EachRequest P (request_step rs e)
-  request-step rs (Queued t class key p) b h =
-      by_test (same_class class Request) (λ c. EachRequest P (cond c (request_leaves rs key p) rs))
-      (λ _. request-offered P rs key p b h) (λ _. h)
-  request-step rs (Started t class p) b h =
-      by_test (same_class class Request) (λ c. EachRequest P (cond c (request_taken rs) rs))
-      (λ _. request-taken P rs h) (λ _. h)
+  request-step rs v0 b h = grind (arith, nat_tests, by_test, request-offered, request-taken)
 
   regular-step : (f : Fair PacketData) (e : Entry) → Brings e → Each P f.queues → Each P (regular_step f e).queues
   regular-step f (Queued t class key p) b h =
@@ -55,19 +50,11 @@ module _ (P : PacketData → Type 0) where
 
   started : (class : Class) (o : Option PacketData) (other : Decision) (s : Class × PacketData) → ((p : PacketData) → o ≡ Some p → P p)
       → (start_of other ≡ Some s → P s.1) → start_of (start_or class o other) ≡ Some s → P s.1
-  started class None other s known rest e = rest e
-  started class (Some p) other s known rest e =
-      let own : Class × PacketData = (class, p) in
-      subst (λ (x : Class × PacketData). P x.1) (same_Some own s e) (known p refl)
-
-  covered_one : (b : Bool) (q p : PacketData) → cond b (Some q) None ≡ Some p → q ≡ p
-  covered_one true q p e = same_Some q p e
-  covered_one false q p e = absurd (cc)
+  started class v0 other s known rest e = grind (arith, nat_tests)
 
   covered_good : (l : LinkLimits) (credit : ℕ) (o : Option PacketData) → ((p : PacketData) → o ≡ Some p → P p)
       → (p : PacketData) → covered l credit o ≡ Some p → P p
-  covered_good l credit None known p e = absurd (cc)
-  covered_good l credit (Some q) known p e = subst P (covered_one (nat_le (cost l (packet_length q)) credit) q p e) (known q refl)
+  covered_good l credit v0 known p e = grind (arith, nat_tests)
 
   waits : (l : LinkLimits) (credit now : ℕ) (o : Option PacketData) (s : Class × PacketData) → start_of (wait_for l credit now o) ≡ Some s → P s.1
   waits l credit now None s e = absurd (cc)

@@ -1,16 +1,12 @@
 -- The events of a run up to an earlier time are the first of those of a run up to a later one.
-use Rattle.tva_run.proofs.Common.{◌≡◌, ℕ, ◌+◌, ◌≤◌, List, [], ◌∷◌, ◌++◌, length, length-append, map, filter, Bool, Option, Some, None, refl, sym, ◌∙◌, ap, inl, inr, arith, nat_lt, slice_get, option_map_or, lt-ltb, cases_Bool, cases_lt, Event, LinkPlan, Config, Row, IsInOrder, cut, Site, event_of, events, Logs, log_at, site_at, logs_before, event_time, event_node, events_at, AreEvents, AreEventsTo}
+use Rattle.tva_run.proofs.Common.{nat_tests, ◌≡◌, ℕ, ◌+◌, ◌≤◌, List, [], ◌∷◌, ◌++◌, length, length-append, map, filter, Bool, Option, Some, refl, sym, ◌∙◌, ap, inl, inr, arith, nat_lt, slice_get, option_map_or, lt-ltb, cases_lt, Event, LinkPlan, Config, Row, IsInOrder, cut, Site, events, Logs, log_at, site_at, logs_before, event_time, event_node, events_at, AreEvents, AreEventsTo}
 use Rattle.tva_run.proofs.Joins.{filter-true, filter-false, cut-late, each_later}
 use Rattle.tva_run.proofs.Joined.{one_join, join-cut}
 use Rattle.tva_run.proofs.Runs.{one_run_is, log_at-before, IsRunTo-cut}
 
 pub filter-map : {X Y : Type 0} (f : X → Y) (p : Y → Bool) (xs : List X) → filter p (map f xs) ≡ map f (filter (λ x. p (f x)) xs)
 filter-map f p [] = refl
-filter-map f p (x ∷ xs) =
-    elim (cases_Bool (p (f x))) [
-      | inl a ↦ rw (filter-true p (f x) (map f xs) a, filter-true (λ z. p (f z)) x xs a) (ap (λ ys. f x ∷ ys) (filter-map f p xs))
-      | inr a ↦ rw (filter-false p (f x) (map f xs) a, filter-false (λ z. p (f z)) x xs a) (filter-map f p xs)
-    ]
+filter-map f p (x ∷ xs) = grind (arith, nat_tests, filter-true, filter-false, (filter-map f p xs))
 
 -- a list in order begins with what it has before a time
 pub begins_cut : {X : Type 0} (time source : X → ℕ) (t : ℕ) (xs : List X) → IsInOrder time source xs → (rest : List X) × (xs ≡ cut time t xs ++ rest)
@@ -24,9 +20,7 @@ begins_cut time source t (x ∷ xs) o =
     ]
 
 events_cut : (t : ℕ) (logs : Logs) (node : ℕ) (o : Option Site) → option_map_or (λ site. events site (log_at (logs_before t logs) node)) o [] ≡ cut event_time t (option_map_or (λ site. events site (log_at logs node)) o [])
-events_cut t logs node None = refl
-events_cut t logs node (Some site) =
-    ap (events site) (log_at-before t logs node) ∙ sym (filter-map (event_of site) (λ e. nat_lt (event_time e) t) (log_at logs node))
+events_cut t logs node v0 = grind (arith, nat_tests, log_at-before, filter-map)
 
 -- the events of the logs before a time are those before it
 pub events_at-before : (config : Config) (t : ℕ) (logs : Logs) (node : ℕ) → events_at config (logs_before t logs) node ≡ cut event_time t (events_at config logs node)

@@ -1,8 +1,7 @@
 -- What reaches a node from one source comes in the order of time.
-use Rattle.tva_run.proofs.Common.{◌≡◌, ℕ, ◌+◌, ◌*◌, ◌<◌, ◌≤◌, List, [], ◌∷◌, ◌++◌, length, Bool, true, false, cond, Option, Some, None, refl, sym, subst, ◌∙◌, ap, arith, inl, inr, ◌==◌, slice_get, option_map, option_and_then, AllByRecursion, cons_option, cases_lt, eqb-true, eq-eqb, ne_eqb, append-nil, filter_map-append, LinkLimits, LinkPlan, Class, Outcome, Queued, Dropped, PacketData, packet_length, key_of, Made, free-queued, free-started, NeverFalls, Input, Arrival, Site, site_of, link_out, limits_out, Content, Entry, Took, Started, input_time, queued_at, reply_at, content_at, port_entry, port_logs, starts, start_after, due, GoesOn, at_time, Config, NodePlan, IsConfig, IsLinkPlan, all_here, Row, slice_get_cases, Logs, log_at, links_out, site_at, arrival_of, arrivals, IsRunTo}
+use Rattle.tva_run.proofs.Common.{nat_tests, ◌≡◌, ℕ, ◌+◌, ◌*◌, ◌<◌, ◌≤◌, List, [], ◌∷◌, ◌++◌, length, Bool, true, false, Option, Some, None, refl, sym, subst, ◌∙◌, ap, arith, inl, inr, ◌==◌, slice_get, option_map, option_and_then, AllByRecursion, cons_option, eqb-true, eq-eqb, append-nil, filter_map-append, LinkLimits, LinkPlan, Class, Outcome, PacketData, packet_length, free-queued, free-started, NeverFalls, Input, Arrival, Site, site_of, link_out, limits_out, Content, Entry, Took, Started, input_time, queued_at, content_at, port_entry, port_logs, starts, start_after, due, GoesOn, at_time, Config, NodePlan, IsConfig, IsLinkPlan, all_here, Row, slice_get_cases, Logs, log_at, links_out, site_at, arrival_of, arrivals, IsRunTo}
 use Rattle.tva_port.specs.Log as port
 use Rattle.tva_run.proofs.Joins.{each-append, each-weaker}
-use Rattle.tva_run.specs.Entries as entry
 use Rattle.tva_run.proofs.Ports.{busy_starts_none}
 use Rattle.tva_run.proofs.LogWalks.{by_place, IsMade, AnyInput, any, made_at}
 use Rattle.tva_run.proofs.Sites.{link_out_is}
@@ -11,31 +10,14 @@ use Rattle.tva_run.proofs.Sites.{link_out_is}
 
 -- what is queued leaves it
 module _ (l : LinkLimits) (log : List port.Entry) (link time : ℕ) where
-  queued_on : (class : Class) (packet : PacketData) (b : Bool) → port.free_after l (log ++ cons_option (cond b (Some (port.Queued time class (key_of class packet) packet)) None) []) ≡ port.free_after l log
-  queued_on class packet false = ap (port.free_after l) (append-nil log)
-  queued_on class packet true = free-queued l 0 log time class (key_of class packet) packet
-
   queued_free : (outcome : Outcome) (class : Class) (packet : PacketData) → port.free_after l (log ++ cons_option (queued_at link time outcome class packet) []) ≡ port.free_after l log
-  queued_free (Queued on) class packet = queued_on class packet (link == on)
-  queued_free (Dropped why) class packet = ap (port.free_after l) (append-nil log)
-
-  reply_free : (reply : Option Made) (went : Option Outcome) → port.free_after l (log ++ cons_option (reply_at link time reply went) []) ≡ port.free_after l log
-  reply_free None went = ap (port.free_after l) (append-nil log)
-  reply_free (Some made) None = ap (port.free_after l) (append-nil log)
-  reply_free (Some made) (Some outcome) = queued_free outcome _ made.packet
+  queued_free v0 class packet = grind (arith, nat_tests, append-nil, free-queued)
 
   content_free : (c : Content) → port.free_after l (log ++ cons_option (content_at link time c) []) ≡ port.free_after l log
-  content_free (entry.Arrived from packet fate onward) = queued_free fate.outcome fate.class onward
-  content_free (entry.Sent made outcome) = queued_free outcome _ made.packet
-  content_free entry.Ticked = ap (port.free_after l) (append-nil log)
-  content_free (entry.Received from packet receipt went range) = reply_free receipt.reply went
+  content_free v0 = grind (arith, nat_tests, queued_free, append-nil)
 
 start_free : (l : LinkLimits) (log : List port.Entry) (now : ℕ) (s : Class × PacketData) → start_after l log now ≡ Some s → port.free_after l log ≤ now
-start_free l log now s e =
-    elim (cases_lt now (port.free_after l log)) [
-      | inl busy ↦ let none = sym (busy_starts_none l log now busy) ∙ e in absurd (cc)
-      | inr free ↦ free
-    ]
+start_free l log now s e = grind (arith, nat_tests, busy_starts_none)
 
 never_falls-push : {X : Type 0} (time : X → ℕ) (xs : List X) (y : X) → NeverFalls time xs → AllByRecursion (λ x. time x ≤ time y) xs → NeverFalls time (xs ++ y ∷ [])
 never_falls-push time [] y h l = (tt, tt)
@@ -69,10 +51,7 @@ module _ (number : ℕ) (link : LinkPlan) (site : Site) (out : link_out site num
   limits_is = ap (option_map (λ (o : ℕ × LinkPlan). (o.0, o.1.limits))) out
 
   sent_on : (before : List Entry) (u on : ℕ) (c : Class) (p : PacketData) (b : Bool) → (on == number) ≡ b → starts site before on u ≡ Some (c, p) → IsRising before → IsRising (before ++ Started u on c p ∷ [])
-  sent_on before u on c p false e s h = same before (Started u on c p) (rw e refl) (ap (port.free_after link.limits) (ap (λ (o : Option port.Entry). port_logs before number ++ cons_option o []) (other e) ∙ append-nil (port_logs before number))) h
-    where
-      other : (on == number) ≡ false → port_entry number (Started u on c p) ≡ None
-      other e = rw (ne_eqb number on (λ i. let k = eq-eqb on number (sym i) in absurd (cc))) refl
+  sent_on before u on c p false e s h = grind (arith, nat_tests, same, append-nil)
   sent_on before u on c p true e s h =
       let is : on ≡ number = eqb-true on number e in
       let here : starts site before number u ≡ Some (c, p) = subst (λ (k : ℕ). starts site before k u ≡ Some (c, p)) is s in

@@ -1,17 +1,10 @@
 -- A network has at most one run up to a time: by induction over that time, since what arrives before the next time was sent
 -- before it. And a run before an earlier time is the run up to that.
-use Rattle.tva_run.proofs.Common.{◌≡◌, ℕ, zero, suc, ◌+◌, ◌*◌, ◌≤◌, List, [], ◌∷◌, length, Bool, true, false, cond, Option, Some, None, refl, sym, subst, ◌∙◌, ap, arith, inl, inr, nat_lt, ◌==◌, slice_get, option_map, option_map_or, cons_option, lt-ltb, le-ltb, cases_lt, ext_get_or, get_or_past, length-map, slice_get_cases, same_Some, LinkPlan, PacketData, packet_length, Config, NodePlan, IsConfig, IsLinkPlan, all_here, Row, from_source, IsJoin, cut, Input, Arrival, Site, site_of, Entry, Took, Started, input_time, input_source, entry_time, entry_rank, at_time, due, Logs, log_at, links_out, site_at, arrival_of, arrivals, arrivals_at, reaches, IsRunTo, logs_before}
+use Rattle.tva_run.proofs.Common.{nat_tests, ◌≡◌, ℕ, zero, suc, ◌+◌, ◌≤◌, List, [], ◌∷◌, length, Bool, true, false, cond, Option, Some, None, refl, sym, subst, ◌∙◌, ap, arith, inl, inr, nat_lt, ◌==◌, slice_get, option_map, option_map_or, cons_option, ext_get_or, get_or_past, length-map, slice_get_cases, LinkPlan, Config, NodePlan, IsConfig, IsLinkPlan, all_here, Row, from_source, IsJoin, cut, Input, Site, site_of, Entry, input_time, input_source, entry_time, entry_rank, due, Logs, log_at, links_out, site_at, arrival_of, arrivals, arrivals_at, reaches, IsRunTo, logs_before}
 use Rattle.tva_run.proofs.Joins.{filter-true, filter-false, filter_swap, in_order-filter, join_unique, cut-zero, cut-cut}
 use Rattle.tva_run.proofs.Logs.{IsNodeLog-cut, IsNodeLog-same, IsNodeLog-unique, cut_same}
 
 -- ## what arrives
-
-started_later : (number time : ℕ) (link : LinkPlan) (packet : PacketData) (b : Bool) (i : Input)
-    → cond b (Some (Arrival (at_time (time + packet_length packet * link.limits.ns_per_byte + link.delay)) number packet)) None ≡ Some i → time + link.delay ≤ input_time i
-started_later number time link packet false i e = absurd (cc)
-started_later number time link packet true i e =
-    let same = same_Some (Arrival (at_time (time + packet_length packet * link.limits.ns_per_byte + link.delay)) number packet) i e in
-    subst (λ x. time + link.delay ≤ input_time x) same (omega arith)
 
 due_cons : (until : ℕ) (o : Option Input) (xs ys : List Input) → due until xs ≡ due until ys → due until (cons_option o xs) ≡ due until (cons_option o ys)
 due_cons until None xs ys h = h
@@ -24,27 +17,15 @@ due_cond until true xs ys h = h
 module _ (number : ℕ) (link : LinkPlan) where
   -- a packet arrives no sooner than the link's delay after it starts
   pub arrives_later : (e : Entry) (i : Input) → arrival_of number link e ≡ Some i → entry_time e + link.delay ≤ input_time i
-  arrives_later (Took input content) i h = absurd (cc)
-  arrives_later (Started time on class packet) i h = started_later number time link packet (on == number) i h
+  arrives_later v0 i h = grind (arith, nat_tests)
 
   due_late : (t until : ℕ) (e : Entry) (o : Option Input) (xs : List Input) → until ≤ t + link.delay → arrival_of number link e ≡ o → t ≤ entry_time e → due until (cons_option o xs) ≡ due until xs
-  due_late t until e None xs d h l = refl
-  due_late t until e (Some i) xs d h l =
-      let k = arrives_later e i h in
-      filter-false (λ x. nat_lt (input_time x) until) i xs (le-ltb (input_time i) until (omega arith))
+  due_late t until e v0 xs d h l = grind (arith, nat_tests)
 
   -- what arrives before a time was sent before the time that is the link's delay earlier
   pub arrivals-cut : (t until : ℕ) (log : List Entry) → until ≤ t + link.delay → due until (arrivals number link log) ≡ due until (arrivals number link (cut entry_time t log))
   arrivals-cut t until [] d = refl
-  arrivals-cut t until (e ∷ es) d =
-      elim (cases_lt (entry_time e) t) [
-        | inl l ↦
-            rw (filter-true (λ x. nat_lt (entry_time x) t) e es (lt-ltb (entry_time e) t l))
-            (due_cons until (arrival_of number link e) (arrivals number link es) (arrivals number link (cut entry_time t es)) (arrivals-cut t until es d))
-        | inr l ↦
-            rw (filter-false (λ x. nat_lt (entry_time x) t) e es (le-ltb (entry_time e) t l))
-            (due_late t until e (arrival_of number link e) (arrivals number link es) d refl l ∙ arrivals-cut t until es d)
-      ]
+  arrivals-cut t until (e ∷ es) d = grind (arith, nat_tests, filter-true, due_cons, filter-false, due_late, (arrivals-cut t until es d))
 
 -- ## what reaches a node
 
@@ -84,9 +65,7 @@ at_nodes config rows until logs run Q none some node = elim (slice_get_cases con
 
 pub source_due : (config : Config) (rows : List Row) (until t : ℕ) (logs : Logs) (node source : ℕ) (inputs : List Input) → t ≤ until
     → IsJoin input_time input_source (λ s. due until (reaches config rows logs node s)) inputs → from_source input_source source (due t inputs) ≡ due t (reaches config rows logs node source)
-source_due config rows until t logs node source inputs l j =
-    filter_swap (λ i. input_source i == source) (λ i. nat_lt (input_time i) t) inputs
-    ∙ (ap (due t) (j.each source) ∙ cut-cut input_time input_source t until (reaches config rows logs node source) l)
+source_due config rows until t logs node source inputs l j = grind (arith, nat_tests, filter_swap, cut-cut, reaches)
 
 module _ (config : Config) (rows : List Row) (until : ℕ) (a b : Logs) (delayed : (number : ℕ) (link : LinkPlan) → slice_get config.links number ≡ Some link → 1 ≤ link.delay) (ra : IsRunTo config rows until a) (rb : IsRunTo config rows until b) where
   at_site : (t : ℕ) → suc t ≤ until → ((m : ℕ) → cut entry_time t (log_at a m) ≡ cut entry_time t (log_at b m)) → (node : ℕ) (plan : NodePlan) → slice_get config.nodes node ≡ Some plan → cut entry_time (suc t) (log_at a node) ≡ cut entry_time (suc t) (log_at b node)
@@ -136,9 +115,8 @@ module _ (config : Config) (rows : List Row) (until : ℕ) (a b : Logs) (delayed
 -- ## before an earlier time
 
 pub log_at-before : (t : ℕ) (logs : Logs) (node : ℕ) → log_at (logs_before t logs) node ≡ cut entry_time t (log_at logs node)
-log_at-before t [] node = refl
-log_at-before t (log ∷ logs) zero = refl
 log_at-before t (log ∷ logs) (suc node) = log_at-before t logs node
+log_at-before t _ node = refl
 
 module _ (config : Config) (rows : List Row) (delayed : (number : ℕ) (link : LinkPlan) → slice_get config.links number ≡ Some link → 1 ≤ link.delay) where
   -- what reaches a node before a time was sent before it

@@ -1,5 +1,5 @@
 -- The nodes of a valid configuration are valid.
-use Rattle.tva_run.proofs.Common.{◌≡◌, ℕ, zero, suc, ◌+◌, ◌*◌, ◌<◌, ◌≤◌, List, [], ◌∷◌, length, map, filter, Bool, true, false, cond, Option, Some, None, refl, sym, subst, ◌∙◌, ap, ap₂, arith, ◌==◌, slice_get, option_map, AllByRecursion, cons_option, find, eqb-true, eq-eqb, ne_eqb, All-from_recursion, recursion_from_All, slice_get_within, same_Some, LinkLimits, LinkPlan, links_of, Config, NodePlan, picked, number_from, links_from, limited_from, outgoing_of, IsConfig, IsLinkPlan, IsWired, AreWired, router_at, host_at, Class, PacketData, packet_length, Input, Arrival, Entry, Took, Started, at_time, arrives, sendings, Site, site_of, link_out, AreRising, IsLinkOut, IsPlanned, IsSite, link_from, links_out, site_at, arrivals}
+use Rattle.tva_run.proofs.Common.{nat_tests, ◌≡◌, ℕ, zero, suc, ◌+◌, ◌<◌, ◌≤◌, List, [], ◌∷◌, length, map, filter, Bool, true, false, cond, Option, Some, None, refl, sym, subst, ◌∙◌, ap, arith, ◌==◌, slice_get, option_map, AllByRecursion, cons_option, find, eqb-true, ne_eqb, All-from_recursion, recursion_from_All, slice_get_within, same_Some, LinkLimits, LinkPlan, links_of, Config, NodePlan, picked, number_from, links_from, limited_from, outgoing_of, IsConfig, IsLinkPlan, IsWired, AreWired, router_at, host_at, Class, PacketData, Entry, Took, Started, sendings, Site, site_of, link_out, AreRising, IsLinkOut, IsPlanned, IsSite, link_from, links_out, site_at, arrivals}
 use Rattle.tva_plan.specs.declared.config.NodePlan.TheVariants as plans
 use Rattle.tva_run.proofs.Joins.{each-weaker}
 use Rattle.tva_run.specs.declared.kinds.Sending.{Sending}
@@ -42,9 +42,7 @@ module _ (n : ℕ) where
 
   numbers_late : (k : ℕ) (links : List LinkPlan) → AllByRecursion (λ m. k ≤ m) (picked (number_from n) k links)
   numbers_late k [] = tt
-  numbers_late k (l ∷ ls) =
-      from_here k (l.from == n) (picked (number_from n) (k + 1) ls)
-      (each-weaker (λ m. k + 1 ≤ m) (λ m. k ≤ m) (λ m h. omega arith) (picked (number_from n) (k + 1) ls) (numbers_late (k + 1) ls))
+  numbers_late k (l ∷ ls) = grind (arith, nat_tests, from_here, picked, each-weaker, (numbers_late (k + 1) ls))
 
   rising_here : (k : ℕ) (b : Bool) (ns : List ℕ) → AllByRecursion (λ m. k + 1 ≤ m) ns → AreRising ns → AreRising (cons_option (cond b (Some k) None) ns)
   rising_here k false ns h r = r
@@ -58,13 +56,8 @@ module _ (n : ℕ) where
 
 wired_here : (links : List LinkPlan) (k : ℕ) (ps : List NodePlan) (n : ℕ) (p : NodePlan) → AreWired links k ps → slice_get ps n ≡ Some p → IsWired links (k + n) p
 wired_here links k [] n p wired here = absurd (cc)
-wired_here links k (q ∷ ps) zero p wired here =
-    let same : q ≡ p = cc in
-    let start : k ≡ k + 0 = omega arith in
-    subst (λ m. IsWired links m p) start (subst (IsWired links k) same wired.0)
-wired_here links k (q ∷ ps) (suc n) p wired here =
-    let further : (k + 1) + n ≡ k + suc n = omega arith in
-    subst (λ m. IsWired links m p) further (wired_here links (k + 1) ps n p wired.1 here)
+wired_here links k (q ∷ ps) zero p wired here = grind arith
+wired_here links k (q ∷ ps) (suc n) p wired here = grind (arith, nat_tests, (wired_here links (k + 1) ps n p wired.1 here))
 
 planned : (config : Config) (n : ℕ) (p : NodePlan) → IsConfig config → slice_get config.nodes n ≡ Some p → IsWired config.links n p → IsPlanned p (links_out n config.links)
 unfolding links_from outgoing_of
@@ -92,12 +85,8 @@ site_by config n site (Some p) valid here h =
 pub site_is : (config : Config) (n : ℕ) (site : Site) → IsConfig config → site_at config n ≡ Some site → (site.number ≡ n) × IsSite site
 site_is config n site valid there = site_by config n site (slice_get config.nodes n) valid refl there
 
-number_by : (config : Config) (n : ℕ) (site : Site) (o : Option NodePlan) → option_map (λ p. site_of n p (links_out n config.links)) o ≡ Some site → site.number ≡ n
-number_by config n site None h = absurd (cc)
-number_by config n site (Some p) h = ap (λ (s : Site). s.number) (sym (same_Some (site_of n p (links_out n config.links)) site h))
-
 pub site_number : (config : Config) (n : ℕ) (site : Site) → site_at config n ≡ Some site → site.number ≡ n
-site_number config n site there = number_by config n site (slice_get config.nodes n) there
+site_number config n site there = grind (arith, nat_tests)
 
 -- ## the link of a number
 
@@ -109,15 +98,8 @@ found_here number k l true os h = rw (ne_eqb k number h) refl
 found : (n k : ℕ) (links : List LinkPlan) (i : ℕ) (link : LinkPlan) → slice_get links i ≡ Some link → link.from ≡ n
     → find (λ (o : ℕ × LinkPlan). o.0 == k + i) (picked (link_from n) k links) ≡ Some (k + i, link)
 found n k [] i link h e = absurd (cc)
-found n k (l ∷ ls) zero link h e =
-    let same : l ≡ link = same_Some l link h in
-    let from : (l.from == n) ≡ true = eq-eqb l.from n (ap (λ (x : LinkPlan). x.from) same ∙ e) in
-    let place : k ≡ k + 0 = omega arith in
-    rw (from, eq-eqb k (k + 0) place) (ap₂ (λ (m : ℕ) (x : LinkPlan). Some (let o : ℕ × LinkPlan = (m, x) in o)) place same)
-found n k (l ∷ ls) (suc i) link h e =
-    let further : (k + 1) + i ≡ k + suc i = omega arith in
-    found_here (k + suc i) k l (l.from == n) (picked (link_from n) (k + 1) ls) (λ z. omega arith)
-    ∙ subst (λ (m : ℕ). find (λ (o : ℕ × LinkPlan). o.0 == m) (picked (link_from n) (k + 1) ls) ≡ Some (m, link)) further (found n (k + 1) ls i link h e)
+found n k (l ∷ ls) zero link h e = grind (arith, nat_tests)
+found n k (l ∷ ls) (suc i) link h e = grind (arith, nat_tests, found_here, picked, (found n (k + 1) ls i link h e))
 
 out_by : (config : Config) (number : ℕ) (link : LinkPlan) (site : Site) (o : Option NodePlan) → slice_get config.links number ≡ Some link
     → option_map (λ p. site_of link.from p (links_out link.from config.links)) o ≡ Some site → link_out site number ≡ Some (number, link)
@@ -138,12 +120,7 @@ module _ (number : ℕ) (link : LinkPlan) (site : Site) (out : link_out site num
   sent_here : (t on : ℕ) (class : Class) (packet : PacketData) (log : List Entry) (b : Bool) → (on == number) ≡ b
       → arrivals number link log ≡ map arrival (filter (λ (s : Sending). s.link == number) (sendings site log))
       → arrivals number link (Started t on class packet ∷ log) ≡ map arrival (filter (λ (s : Sending). s.link == number) (sendings site (Started t on class packet ∷ log)))
-  sent_here t on class packet log false e h = rw e h
-  sent_here t on class packet log true e h =
-      let same : on ≡ number = eqb-true on number e in
-      let time : arrives site t on packet ≡ t + packet_length packet * link.limits.ns_per_byte + link.delay =
-      ap (λ (k : ℕ). arrives site t k packet) same ∙ rw out refl in
-      rw e (ap₂ (λ (i : Input) (is : List Input). i ∷ is) (ap₂ (λ (a k : ℕ). Arrival (at_time a) k packet) (sym time) (sym same)) h)
+  sent_here t on class packet log v0 e h = grind arith
 
   pub sent_arrives : (log : List Entry) → arrivals number link log ≡ map arrival (filter (λ (s : Sending). s.link == number) (sendings site log))
   sent_arrives [] = refl

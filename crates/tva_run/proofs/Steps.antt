@@ -125,17 +125,3 @@ module _ (site : Site) where
                   rw (now, cut-early entry_time entry_rank (suc t) log early) (elim (cases_lt k r) [ inl b ↦ h.none_now k b | inr b ↦ none k b ])
             ];
       }
-
-  -- nothing happens up to a later time
-  pub passes : (inputs : List Input) (t u : ℕ) (log : List Entry) → t ≤ u → due u inputs ≡ due t inputs → ((v k : ℕ) → t ≤ v → v < u → starts site log k v ≡ None) → IsNodeLog site inputs t log → IsNodeLog site inputs u log
-  passes inputs t u log l e quiet h = record {
-    in_order = h.in_order;
-    early = each-weaker (λ y. entry_time y < t) (λ y. entry_time y < u) (λ y k. omega arith) log h.early;
-    steps = subst (λ (is : List Input). GoesOn site [] is log) (sym e) h.steps;
-    none_left = λ v k a.
-        elim (cases_lt v t) [
-          | inl c ↦ h.none_left v k c
-          | inr c ↦
-              rw (cut-early entry_time entry_rank (suc v) log (each-weaker (λ y. entry_time y < t) (λ y. entry_time y < suc v) (λ y i. omega arith) log h.early)) (quiet v k c a)
-        ];
-  }

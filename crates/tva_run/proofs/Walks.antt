@@ -1,7 +1,7 @@
 -- What holds of each packet that is made or handed on holds of what starts. And what holds of what a node makes of inputs, where
 -- it held of these, holds of each entry of a run: by induction over time, since what arrives before the next time was sent
 -- before it.
-use Rattle.tva_run.proofs.Common.{◌≡◌, ℕ, zero, suc, ◌+◌, ◌*◌, ◌≤◌, Bool, true, false, cond, List, [], ◌∷◌, ◌++◌, map, filter, Option, Some, None, refl, sym, ap, subst, ◌∙◌, arith, inl, inr, append_assoc, nat_lt, ◌==◌, slice_get, option_map_or, option_and_then, AllByRecursion, cons_option, cases_lt, lt-ltb, LinkLimits, Class, Outcome, Queued, Dropped, LinkPlan, PacketData, packet_length, class_by_shim, key_of, Made, Config, IsConfig, Row, IsInOrder, cut, Input, FromTrace, Arrival, Site, limits_out, Content, Arrived, Sent, Ticked, Received, Entry, Took, Started, input_time, input_source, entry_time, entry_rank, queued_at, reply_at, content_at, port_entry, port_logs, due, starts, start_after, at_time, Logs, log_at, site_at, rows_at, arrivals, arrivals_at, reaches, IsRunTo}
+use Rattle.tva_run.proofs.Common.{nat_tests, ◌≡◌, ℕ, zero, suc, ◌+◌, ◌*◌, ◌≤◌, Bool, true, false, cond, List, [], ◌∷◌, ◌++◌, map, Option, Some, None, refl, sym, ap, subst, ◌∙◌, arith, inl, inr, append_assoc, nat_lt, ◌==◌, slice_get, option_map_or, option_and_then, AllByRecursion, cons_option, cases_lt, lt-ltb, LinkLimits, Class, Outcome, LinkPlan, PacketData, packet_length, Made, Config, IsConfig, Row, IsInOrder, cut, Input, FromTrace, Arrival, Site, limits_out, Content, Arrived, Sent, Ticked, Received, Entry, Took, Started, input_time, input_source, entry_time, entry_rank, queued_at, content_at, port_entry, port_logs, due, starts, start_after, at_time, Logs, log_at, site_at, arrivals, arrivals_at, reaches, IsRunTo}
 use Rattle.tva_port.specs.Log as port
 use Rattle.tva_run.proofs.Joins.{each-filter, each_later, filter-true, cut-late, cut-zero}
 use Rattle.tva_run.proofs.Putting.{each_from_sources}
@@ -33,26 +33,13 @@ module _ (P : PacketData → Type 0) where
 
   queued_good : (link time : ℕ) (outcome : Outcome) (class : Class) (packet : PacketData) → P packet
       → IfBrings (queued_at link time outcome class packet)
-  queued_good link time (Queued on) class packet k =
-      elim (link == on) as (λ b. IfBrings (cond b (Some (port.Queued time class (key_of class packet) packet)) None))
-      [ true ↦ (k, tt) | false ↦ tt ]
-  queued_good link time (Dropped why) class packet k = tt
-
-  reply_good : (link time : ℕ) (reply : Option Made) (went : Option Outcome) → IsReplyGood reply → IfBrings (reply_at link time reply went)
-  reply_good link time None went k = tt
-  reply_good link time (Some made) None k = tt
-  reply_good link time (Some made) (Some outcome) k = queued_good link time outcome (class_by_shim made.packet.carried) made.packet k
+  queued_good link time v0 class packet k = grind arith
 
   content_good : (link time : ℕ) (c : Content) → Leaves c → IfBrings (content_at link time c)
-  content_good link time (Arrived from packet fate onward) k = queued_good link time fate.outcome fate.class onward k
-  content_good link time (Sent made outcome) k = queued_good link time outcome (class_by_shim made.packet.carried) made.packet k
-  content_good link time Ticked k = tt
-  content_good link time (Received from packet receipt went range) k = reply_good link time receipt.reply went k
+  content_good link time v0 k = grind (arith, nat_tests)
 
   entry_good : (link : ℕ) (e : Entry) → LeavesAt e → IfBrings (port_entry link e)
-  entry_good link (Took input content) k = content_good link (input_time input) content k
-  entry_good link (Started time on class packet) k =
-      elim (link == on) as (λ b. IfBrings (cond b (Some (port.Started time class packet)) None)) [ true ↦ (tt, tt) | false ↦ tt ]
+  entry_good link v0 k = grind (arith, nat_tests)
 
   one_more : (o : Option port.Entry) (xs : List port.Entry) → IfBrings o → AllByRecursion (Brings P) xs
       → AllByRecursion (Brings P) (cons_option o xs)
@@ -139,10 +126,7 @@ module _ (config : Config) (rows : List Row) (until : ℕ) (logs : Logs) (valid 
   by_number t h node number (Some link) here = by_link number link here t h (link.to == node)
 
   reached : (t : ℕ) → HoldsTo t → (node source : ℕ) → AllByRecursion P (due (suc t) (reaches config rows logs node source))
-  reached t h node zero =
-      each-filter P (λ (i : Input). nat_lt (input_time i) (suc t)) (rows_at rows node)
-      (taken (filter (λ (row : Row). row.node == node) rows) (each-filter (λ (row : Row). P (FromTrace row)) (λ (row : Row). row.node == node) rows given))
-  reached t h node (suc number) = by_number t h node number (slice_get config.links number) refl
+  reached t h node v0 = grind (arith, nat_tests, each-filter, taken, by_number)
 
   -- where it holds of all entries before a time, it holds of all that reaches a node up to it
   pub inputs_to : (t : ℕ) → suc t ≤ until → HoldsTo t → (node : ℕ) (site : Site) (there : site_at config node ≡ Some site)

@@ -2,15 +2,11 @@
 use Rattle.tva_sender.proofs.Common.{ℕ, ◌+◌, ◌*◌, ◌^◌, ◌<◌, ◌≤◌, max, arith, mul-le-mul_left}
 
 pub le-mul_some : (a b : ℕ) → 1 ≤ b → a ≤ a * (1024 * b)
-le-mul_some a b some =
-    let more : a * 1 ≤ a * (1024 * b) = mul-le-mul_left a (omega arith) in
-    omega arith
+le-mul_some a b some = grind (arith, mul-le-mul_left)
 
 -- a byte adds less than 2^38 nanoseconds
 pub credit_small : (bytes t credit : ℕ) → t < 2 ^ 8 → credit ≤ bytes * t * 1000000000 → credit ≤ bytes * 2 ^ 38
-credit_small bytes t credit few least =
-    let most : bytes * t ≤ bytes * 255 = mul-le-mul_left bytes (omega arith) in
-    omega arith
+credit_small bytes t credit few least = grind (arith, mul-le-mul_left)
 
 -- the life stays near where the packet's credit is added
 pub life_near : (last life used bytes credit : ℕ) → life ≤ last + used * 2 ^ 38 → credit ≤ bytes * 2 ^ 38 → max life last + credit ≤ last + (used + bytes) * 2 ^ 38

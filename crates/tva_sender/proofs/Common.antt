@@ -26,3 +26,4 @@ pub use Rattle.tva_sender.specs.declared.grant.Grant.{Grant}
 pub use Rattle.tva_sender.specs.declared.peer.Peer.{Peer}
 pub use Rattle.tva_sender.specs.declared.places.Node.{Node}
 pub use Rattle.tva_sender.specs.declared.shape.Shape.{Shape}
+pub use Rattle.std.proofs.lemmas.Grind.{common_steps}

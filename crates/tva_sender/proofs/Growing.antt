@@ -1,40 +1,28 @@
 -- The tree with one address more.
-use Rattle.tva_sender.proofs.Common.{◌≡◌, ℕ, zero, suc, ◌+◌, ◌<◌, Bool, true, false, cond, eqb, List, [], ◌∷◌, ◌++◌, length, set, Option, Some, None, refl, sym, ap, ◌∙◌, subst, inl, inr, ◌⊎◌, arith, option_and_then, cases_lt, cases_eq, ne_eqb, get_or-set_same, get_or-set_other, get_or_append_left, get_or_push, get_or-map, length-set, length_push, map-append, map-set, set-get_or, Node, addresses_of, leaf, node, branch, with_branch, is_high, step, spot, IsTree, IsMissing}
-use Rattle.tva_sender.proofs.Tree.{next, within}
+use Rattle.tva_sender.proofs.Common.{◌≡◌, ℕ, zero, suc, ◌+◌, ◌<◌, Bool, cond, eqb, List, [], ◌∷◌, ◌++◌, length, set, Option, Some, None, sym, ap, ◌∙◌, subst, inl, inr, ◌⊎◌, arith, option_and_then, cases_lt, cases_eq, ne_eqb, get_or-set_same, get_or-set_other, get_or_append_left, get_or_push, get_or-map, length-set, length_push, map-append, map-set, set-get_or, Node, addresses_of, leaf, node, branch, with_branch, is_high, step, spot, IsTree, IsMissing}
+use Rattle.tva_sender.proofs.Tree.{within}
 
 -- a branch that leads somewhere else
 same_address : (n : Node) (high : Bool) (to : ℕ) → (with_branch n high to).address ≡ n.address
-same_address n true to = refl
-same_address n false to = refl
+same_address n high to = grind arith
 
 leads : (n : Node) (high : Bool) (to : ℕ) → branch high (with_branch n high to) ≡ Some to
-leads n true to = refl
-leads n false to = refl
+leads n high to = grind arith
 
 still_leads : (n : Node) (high other : Bool) (to j : ℕ) → branch other n ≡ Some j → branch high n ≡ None → branch other (with_branch n high to) ≡ Some j
-still_leads n true true to j e none = absurd (cc)
-still_leads n true false to j e none = e
-still_leads n false true to j e none = e
-still_leads n false false to j e none = absurd (cc)
+still_leads n high other to j e none = grind arith
 
 led_before : (n : Node) (high other : Bool) (to j : ℕ) → branch other (with_branch n high to) ≡ Some j → (branch other n ≡ Some j) ⊎ (j ≡ to)
-led_before n true true to j e = let is : to ≡ j = cc in inr (sym is)
-led_before n true false to j e = inl e
-led_before n false true to j e = inl e
-led_before n false false to j e = let is : to ≡ j = cc in inr (sym is)
+led_before n high other to j e = grind arith
 
 no_leaf : (a : ℕ) (high : Bool) (j : ℕ) → branch high (leaf a) ≡ Some j → ⊥
-no_leaf a true j e = absurd (cc)
-no_leaf a false j e = absurd (cc)
+no_leaf a high j e = grind arith
 
 choice-still : (b : Bool) (n : Node) (high other : Bool) (to at j : ℕ) → cond b (Some at) (branch other n) ≡ Some j → branch high n ≡ None → cond b (Some at) (branch other (with_branch n high to)) ≡ Some j
-choice-still true n high other to at j e none = e
-choice-still false n high other to at j e none = still_leads n high other to j e none
+choice-still b n high other to at j e none = grind (arith, still_leads)
 
 step-still : (n : Node) (high : Bool) (to a depth at j : ℕ) → step n a depth at ≡ Some j → branch high n ≡ None → step (with_branch n high to) a depth at ≡ Some j
-step-still n high to a depth at j e none =
-    subst (λ (z : ℕ). cond (eqb z a) (Some at) (branch (is_high a depth) (with_branch n high to)) ≡ Some j) (sym (same_address n high to))
-    (choice-still (eqb n.address a) n high (is_high a depth) to at j e none)
+step-still n high to a depth at j e none = cc (same_address n high to, choice-still (eqb n.address a) n high (is_high a depth) to at j e none)
 
 abbrev pub grown : List Node → ℕ → ℕ → Bool → List Node
 grown ns a at high = set ns at (with_branch (node ns at) high (length ns)) ++ leaf a ∷ []
@@ -44,35 +32,21 @@ module _ (ns : List Node) (t : IsTree ns) (a at : ℕ) (high : Bool) (m : IsMiss
   size = length_push (set ns at (with_branch (node ns at) high (length ns))) (leaf a) ∙ ap (λ (n : ℕ). n + 1) (length-set ns at (with_branch (node ns at) high (length ns)))
 
   node-at : node (grown ns a at high) at ≡ with_branch (node ns at) high (length ns)
-  node-at =
-      let n = with_branch (node ns at) high (length ns) in
-      get_or_append_left (set ns at n) (leaf a ∷ []) (leaf 0) at (omega (arith, m.within, length-set ns at n))
-      ∙ get_or-set_same ns at n (leaf 0) m.within
+  node-at = grind (arith, get_or_append_left, length-set, get_or-set_same)
 
   node-other : (i : ℕ) → i < length ns → (i ≡ at → ⊥) → node (grown ns a at high) i ≡ node ns i
-  node-other i l other =
-      let n = with_branch (node ns at) high (length ns) in
-      get_or_append_left (set ns at n) (leaf a ∷ []) (leaf 0) i (omega (arith, l, length-set ns at n))
-      ∙ get_or-set_other ns at i n (leaf 0) other
+  node-other i l other = grind (arith, get_or_append_left, length-set, get_or-set_other)
 
   node-new : node (grown ns a at high) (length ns) ≡ leaf a
-  node-new =
-      let n = with_branch (node ns at) high (length ns) in get_or_push (set ns at n) (leaf a) (leaf 0) (length ns) (length-set ns at n)
+  node-new = simp (get_or_push, length-set)
 
   -- steps lead where they led
   step-grown : (p depth i j : ℕ) → i < length ns → step (node ns i) p depth i ≡ Some j → step (node (grown ns a at high) i) p depth i ≡ Some j
-  step-grown p depth i j l e = elim (cases_eq i at) [
-    | inl is ↦ subst (λ (n : Node). step n p depth i ≡ Some j) (sym (subst (λ (z : ℕ). node (grown ns a at high) z ≡ with_branch (node ns z) high (length ns)) (sym is) node-at))
-        (step-still (node ns i) high (length ns) p depth i j e (subst (λ (z : ℕ). branch high (node ns z) ≡ None) (sym is) m.nowhere))
-    | inr other ↦ subst (λ (n : Node). step n p depth i ≡ Some j) (sym (node-other i l other)) e
-  ]
+  step-grown p depth i j l e = grind (arith, cases_eq, node-at, step-still, node-other)
 
   spot-next : (p depth j : ℕ) (o u : Option ℕ) → ((i : ℕ) → o ≡ Some i → (u ≡ Some i) × (i < length ns))
       → option_and_then (λ (i : ℕ). step (node ns i) p depth i) o ≡ Some j → option_and_then (λ (i : ℕ). step (node (grown ns a at high) i) p depth i) u ≡ Some j
-  spot-next p depth j None u h e = absurd (cc)
-  spot-next p depth j (Some i) u h e =
-      let k = h i refl in
-      ap (option_and_then (λ (i : ℕ). step (node (grown ns a at high) i) p depth i)) k.0 ∙ step-grown p depth i j k.1 e
+  spot-next p depth j o u h e = grind (arith, step-grown)
 
   spot-grown : (p depth i : ℕ) → spot ns p depth ≡ Some i → spot (grown ns a at high) p depth ≡ Some i
   spot-grown p zero i e = e
@@ -81,18 +55,11 @@ module _ (ns : List Node) (t : IsTree ns) (a at : ℕ) (high : Bool) (m : IsMiss
       (λ j h. (spot-grown p depth j h, within ns t (omega (arith, m.within)) p depth j h)) e
 
   address-grown : (i : ℕ) → i < length ns → (node (grown ns a at high) i).address ≡ (node ns i).address
-  address-grown i l = elim (cases_eq i at) [
-    | inl is ↦ subst (λ (z : ℕ). (node (grown ns a at high) z).address ≡ (node ns z).address) (sym is) (ap (λ (n : Node). n.address) node-at ∙ same_address (node ns at) high (length ns))
-    | inr other ↦ ap (λ (n : Node). n.address) (node-other i l other)
-  ]
+  address-grown i l = grind (arith, cases_eq, node-at, same_address, node-other)
 
   -- and one more leads to the new place
   spot-new : spot (grown ns a at high) a (suc m.depth) ≡ Some (length ns)
-  spot-new =
-      let n = with_branch (node ns at) high (length ns) in
-      let other : eqb n.address a ≡ false = ne_eqb n.address a (λ e. m.other (sym (same_address (node ns at) high (length ns)) ∙ e)) in
-      let there : step n a m.depth at ≡ Some (length ns) = rw other (subst (λ (b : Bool). branch b n ≡ Some (length ns)) m.turn (leads (node ns at) high (length ns))) in
-      next (grown ns a at high) a m.depth at (spot-grown a m.depth at m.here) ∙ subst (λ (z : Node). step z a m.depth at ≡ Some (length ns)) (sym node-at) there
+  spot-new = grind (arith, ne_eqb, same_address, spot-grown, node-at)
 
   later-old : (i j : ℕ) (b : Bool) → i < length ns → branch b (node ns i) ≡ Some j → (i < j) × (j < length (grown ns a at high))
   later-old i j b l e = let k = t.later i j b l e in (k.0, omega (arith, k.1, size))

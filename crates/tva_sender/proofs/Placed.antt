@@ -1,5 +1,5 @@
 -- What is looked up in a list of peers by their places.
-use Rattle.tva_sender.proofs.Common.{◌≡◌, ℕ, zero, suc, ◌-◌, ◌<◌, ◌≤◌, Bool, true, false, ◌||◌, cond, eqb, List, [], ◌∷◌, ◌++◌, length, map, get_or, set, Option, Some, None, refl, sym, ap, subst, ◌∙◌, inl, inr, arith, nat_eq, is_some, lookup, cases_eq, eqb-true, eqb-false, ne_eqb, length-map, length-set, map-append, Peer, AreNear, Known, ArePlaced, IsNowhere, IsFirstAt, IsNearPeer}
+use Rattle.tva_sender.proofs.Common.{◌≡◌, ℕ, zero, suc, ◌-◌, ◌<◌, ◌≤◌, Bool, false, ◌||◌, cond, eqb, List, [], ◌∷◌, ◌++◌, length, map, get_or, set, Option, Some, None, refl, sym, ap, subst, ◌∙◌, arith, nat_eq, is_some, lookup, cases_eq, eqb-true, eqb-false, ne_eqb, length-map, length-set, map-append, Peer, AreNear, Known, ArePlaced, IsNowhere, IsFirstAt, IsNearPeer}
 use Rattle.std.proofs.lemmas.Bool.{eq-eqb}
 
 abbrev pub addresses : List (ℕ × Peer) → List ℕ
@@ -75,27 +75,20 @@ within_first (x ∷ xs) a zero f = omega arith
 within_first (x ∷ xs) a (suc i) f = omega (arith, within_first xs a i f.1)
 
 pub within_place : (ps : List (ℕ × Peer)) (k : List ℕ) (a i : ℕ) → addresses ps ≡ k → IsFirstAt a k i → i < length ps
-within_place ps k a i same first =
-    let l = within_first k a i first in
-    let e : length (addresses ps) ≡ length k = ap (λ (z : List ℕ). length z) same in
-    omega (arith, l, e, length-map ps (λ (p : ℕ × Peer). p.0))
+within_place ps k a i same first = grind (arith, within_first, length-map)
 
 -- who is known stays so where one peer is changed, and one more is where one is added
 either : (b : Bool) (u v : Peer) (r s : Option Peer) → is_some r ≡ is_some s → is_some (cond b (Some u) r) ≡ is_some (cond b (Some v) s)
-either true u v r s e = refl
-either false u v r s e = e
+either b u v r s e = grind arith
 
 or_more : (b : Bool) (u : Peer) (r s : Option Peer) (t : Bool) → is_some r ≡ (is_some s || t) → is_some (cond b (Some u) r) ≡ (is_some (cond b (Some u) s) || t)
-or_more true u r s t e = refl
-or_more false u r s t e = e
+or_more b u r s t e = grind arith
 
 or_this : (b : Bool) (p : Peer) → is_some (cond b (Some p) None) ≡ b
-or_this true p = refl
-or_this false p = refl
+or_this b p = grind arith
 
 or_none : (b t : Bool) → t ≡ false → b ≡ (b || t)
-or_none true t e = refl
-or_none false t e = sym e
+or_none b t e = grind arith
 
 known-set : (ps : List (ℕ × Peer)) (k : List ℕ) (a i : ℕ) (x : ℕ × Peer) → addresses ps ≡ k → IsFirstAt a k i → x.0 ≡ a → (q : ℕ) → is_some (lookup (nat_eq q) (set ps i x)) ≡ is_some (lookup (nat_eq q) ps)
 known-set ps k a i x same first key q = go ps i (subst (λ (z : List ℕ). IsFirstAt a z i) (sym same) first)
@@ -109,12 +102,7 @@ known-set ps k a i x same first key q = go ps i (subst (λ (z : List ℕ). IsFir
     go (p ∷ ps) (suc i) f = either (eqb q p.0) p.1 p.1 (lookup (nat_eq q) (set ps i x)) (lookup (nat_eq q) ps) (go ps i f.1)
 
 pub known-found : (ps : List (ℕ × Peer)) (a : ℕ) (p : Peer) → Some p ≡ lookup (nat_eq a) ps → (q : ℕ) → is_some (lookup (nat_eq q) ps) ≡ (is_some (lookup (nat_eq q) ps) || eqb q a)
-known-found ps a p found q = elim (cases_eq q a) [
-  | inl e ↦ (
-      let here : is_some (lookup (nat_eq q) ps) ≡ true = subst (λ (z : ℕ). is_some (lookup (nat_eq z) ps) ≡ true) (sym e) (ap is_some (sym found)) in
-      rw here refl)
-  | inr n ↦ or_none (is_some (lookup (nat_eq q) ps)) (eqb q a) (ne_eqb q a n)
-]
+known-found ps a p found q = grind (arith, cases_eq, is_some, nat_eq, or_none, ne_eqb)
 
 pub known-push : (ps : List (ℕ × Peer)) (a : ℕ) (p : Peer) (q : ℕ) → is_some (lookup (nat_eq q) (ps ++ (a, p) ∷ [])) ≡ (is_some (lookup (nat_eq q) ps) || eqb q a)
 known-push [] a p q = or_this (eqb q a) p
@@ -143,10 +131,7 @@ found_at room k cap ps a i x p' placed first value =
     }
 
 near-later : (last now : ℕ) (p : Peer) → last ≤ now → IsNearPeer last p → IsNearPeer now p
-near-later last now p l n = record {
-  asked = omega (arith, n.asked, l);
-  grant = λ g e. let k = n.grant g e in record { asked = omega (arith, k.asked, l); life = omega (arith, k.life, l); used = k.used; rights = k.rights };
-}
+near-later last now p l n = grind arith
 
 pub all-later : (last now : ℕ) (ps : List (ℕ × Peer)) → last ≤ now → AreNear last ps → AreNear now ps
 all-later last now ps l all = λ q p found. near-later last now p l (all q p found)

@@ -1,11 +1,9 @@
 -- What one more contact leaves of a list that a sender can have.
-use Rattle.tva_sender.proofs.Common.{◌≡◌, ℕ, ◌≤◌, List, [], ◌∷◌, ◌++◌, Some, refl, sym, subst, arith, append_assoc, append-nil, All-push, All-weaker, Shape, Peer, Contact, Prepared, Taken, Notice, shape_of, length_of, by_grant, may_ask, IsUpTo, NoneLater, IsNext, AreNext, Keeps, IsStrange}
+use Rattle.tva_sender.proofs.Common.{◌≡◌, ℕ, ◌≤◌, List, [], ◌∷◌, ◌++◌, Some, refl, sym, subst, arith, append_assoc, append-nil, All-push, All-weaker, Shape, Peer, Contact, Prepared, shape_of, length_of, by_grant, may_ask, IsUpTo, NoneLater, IsNext, AreNext, Keeps, IsStrange}
 use Rattle.tva_sender.specs.declared.shape.Shape.TheVariants as shape
 
 up_to-later : (last now : ℕ) → last ≤ now → (c : Contact) → IsUpTo last c → IsUpTo now c
-up_to-later last now l (Prepared time s length) q = omega (arith, l, q)
-up_to-later last now l (Taken rights caps) q = tt
-up_to-later last now l Notice q = tt
+up_to-later last now l c q = grind arith
 
 pub none-later : (last now : ℕ) (cs : List Contact) → last ≤ now → NoneLater last cs → NoneLater now cs
 none-later last now cs l p = All-weaker (IsUpTo last) (IsUpTo now) (up_to-later last now l) cs p
@@ -22,13 +20,7 @@ next-push margin retry version before (d ∷ ds) c a n =
 -- a packet in the shape that the contacts before it give
 pub next-prepared : (margin retry version last : ℕ) (h : List Contact) (now body offered : ℕ) (s : Shape) → last ≤ now → NoneLater last h
     → s ≡ shape_of margin retry version h now body offered → IsNext margin retry version h (Prepared now s (length_of version s body))
-next-prepared margin retry version last h now body offered s l p is = record {
-  body = body;
-  offered = offered;
-  order = none-later last now h l p;
-  shape = is;
-  length = refl;
-}
+next-prepared margin retry version last h now body offered s l p is = grind (arith, none-later)
 
 -- the shape by what is kept of a peer is that by what happened with it
 pub shape-kept : (margin retry version : ℕ) (p : Peer) (h : List Contact) (now body offered : ℕ) → Keeps p h

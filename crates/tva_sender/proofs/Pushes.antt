@@ -1,16 +1,13 @@
 -- What one more contact changes in what is read off a list of contacts.
-use Rattle.tva_sender.proofs.Common.{◌≡◌, ℕ, ◌+◌, Bool, true, false, not, cond, List, [], ◌∷◌, ◌++◌, Option, Some, None, refl, ap, sym, max, arith, append_assoc, append-nil, option_or, option_map, option_map_or, unwrap_or, sum_by-cons, sum_by_push, Rights, Contact, Prepared, Taken, Notice, is_notice, asks, Ask, ask_in, last_ask, Taking, taking_in, last_taking, notices, Use, uses_in, uses, after_notice, since_notice, life_of, first_nonce, is_answered}
+use Rattle.tva_sender.proofs.Common.{◌≡◌, ℕ, ◌+◌, Bool, true, false, not, cond, List, [], ◌∷◌, ◌++◌, Option, Some, None, refl, ap, sym, max, arith, append_assoc, append-nil, option_or, option_map, option_map_or, unwrap_or, sum_by-cons, sum_by_push, Rights, Contact, Prepared, Taken, Notice, is_notice, Ask, ask_in, last_ask, Taking, taking_in, last_taking, notices, Use, uses_in, uses, after_notice, since_notice, life_of, first_nonce, is_answered, nat_tests, common_steps}
 use Rattle.tva_base.specs.Credit.{credit_of}
 
 -- the last of two, and what a function makes of it
 or_none : {X : Type 0} (x : Option X) → option_or None x ≡ option_or x None
-or_none None = refl
-or_none (Some x) = refl
+or_none x = grind arith
 
 or_map : {X Y : Type 0} (f : X → Y) (y : Option Y) (a b : Option X) → option_or (option_or y (option_map f a)) (option_map f b) ≡ option_or y (option_map f (option_or a b))
-or_map f (Some y) a b = refl
-or_map f None (Some a) b = refl
-or_map f None None b = refl
+or_map f y a b = grind arith
 
 -- the time of an ask, if there is one, and whether it isn't answered
 abbrev pub time_of : Option Ask → ℕ
@@ -23,9 +20,7 @@ abbrev pub ask_more : Contact → Ask → Ask
 ask_more c ask = record { time = ask.time; after = ask.after ++ c ∷ [] }
 
 ask_in-push : (d : Contact) (cs : List Contact) (c : Contact) → ask_in d (cs ++ c ∷ []) ≡ option_map (ask_more c) (ask_in d cs)
-ask_in-push (Prepared time shape length) cs c = elim (asks shape) as (λ b. cond b (Some (record { time = time; after = cs ++ c ∷ [] })) None ≡ option_map (ask_more c) (cond b (Some (record { time = time; after = cs })) None)) [ true ↦ refl | false ↦ refl ]
-ask_in-push (Taken rights caps) cs c = refl
-ask_in-push Notice cs c = refl
+ask_in-push d cs c = grind (arith, ask_more)
 
 pub last_ask-push : (h : List Contact) (c : Contact) → last_ask (h ++ c ∷ []) ≡ option_or (ask_in c []) (option_map (ask_more c) (last_ask h))
 last_ask-push [] c = or_none (ask_in c [])
@@ -35,9 +30,7 @@ abbrev pub taking_more : Contact → Taking → Taking
 taking_more c t = record { before = t.before; rights = t.rights; caps = t.caps; after = t.after ++ c ∷ [] }
 
 taking_in-push : (before : List Contact) (d : Contact) (cs : List Contact) (c : Contact) → taking_in before d (cs ++ c ∷ []) ≡ option_map (taking_more c) (taking_in before d cs)
-taking_in-push before (Prepared time shape length) cs c = refl
-taking_in-push before (Taken rights caps) cs c = refl
-taking_in-push before Notice cs c = refl
+taking_in-push before d cs c = grind arith
 
 pub last_taking-push : (before h : List Contact) (c : Contact) → last_taking before (h ++ c ∷ []) ≡ option_or (taking_in (before ++ h) c []) (option_map (taking_more c) (last_taking before h))
 last_taking-push before [] c = rw (append-nil before) (or_none (taking_in before c []))
@@ -57,8 +50,7 @@ after_notice-push [] c other = rw other refl
 after_notice-push (d ∷ ds) c other = rw (after_notice-push ds c other) (elim (is_notice d) as (λ b. cond b (Some (ds ++ c ∷ [])) (option_map (λ rest. rest ++ c ∷ []) (after_notice ds)) ≡ option_map (λ rest. rest ++ c ∷ []) (cond b (Some ds) (after_notice ds))) [ true ↦ refl | false ↦ refl ])
 
 since_more : (o : Option (List Contact)) (cs : List Contact) (c : Contact) → unwrap_or (option_map (λ rest. rest ++ c ∷ []) o) (cs ++ c ∷ []) ≡ unwrap_or o cs ++ c ∷ []
-since_more None cs c = refl
-since_more (Some rest) cs c = refl
+since_more o cs c = grind arith
 
 pub since_notice-push : (cs : List Contact) (c : Contact) → is_notice c ≡ false → since_notice (cs ++ c ∷ []) ≡ since_notice cs ++ c ∷ []
 since_notice-push cs c other = rw (after_notice-push cs c other) (since_more (after_notice cs) cs c)
@@ -78,10 +70,7 @@ since_notice-first cs none = ap (λ o. unwrap_or o (cs ++ Notice ∷ [])) (notic
 
 pub life_of-push : (rights : Rights) (us : List Use) (u : Use) → life_of rights (us ++ u ∷ []) ≡ max (life_of rights us) u.time + credit_of u.length rights
 life_of-push rights [] u = omega (arith, sum_by-cons (λ (w : Use). credit_of w.length rights) u [])
-life_of-push rights (d ∷ ds) u =
-    let credit : Use → ℕ = λ w. credit_of w.length rights in
-    omega (arith, life_of-push rights ds u, sum_by-cons credit d ds, sum_by-cons credit d (ds ++ u ∷ []), sum_by_push credit ds u)
+life_of-push rights (d ∷ ds) u = grind (arith, common_steps, nat_tests, sum_by-cons, sum_by_push, life_of-push rights ds u)
 
 pub first_nonce-push : (us : List Use) (u : Use) → first_nonce (us ++ u ∷ []) ≡ Some (unwrap_or (first_nonce us) u.nonce)
-first_nonce-push [] u = refl
-first_nonce-push (d ∷ ds) u = refl
+first_nonce-push us u = grind arith

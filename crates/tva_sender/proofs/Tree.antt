@@ -33,11 +33,7 @@ gone ns a depth here (suc more) l = elim (cases_lt depth (suc more)) [
 
 -- steps lead to places
 within-next : (ns : List Node) → IsTree ns → (a depth : ℕ) (o : Option ℕ) → ((i : ℕ) → o ≡ Some i → i < length ns) → (j : ℕ) → option_and_then (λ (i : ℕ). step (node ns i) a depth i) o ≡ Some j → j < length ns
-within-next ns t a depth None h j e = absurd (cc)
-within-next ns t a depth (Some i) h j e = let l = h i refl in elim (cases_eq (node ns i).address a) [
-  | inl is ↦ (let s = step-stays (node ns i) a depth i is in let same : i ≡ j = cc in omega (arith, l, same))
-  | inr other ↦ (t.later i j (is_high a depth) l (sym (step-goes (node ns i) a depth i other) ∙ e)).1
-]
+within-next ns t a depth o h j e = grind (arith, cases_eq, step-stays, step-goes)
 
 pub within : (ns : List Node) → IsTree ns → 0 < length ns → (a depth i : ℕ) → spot ns a depth ≡ Some i → i < length ns
 within ns t some a zero i e = let first : 0 ≡ i = cc in omega (arith, some, first)
@@ -89,8 +85,7 @@ each-nowhere a (n ∷ ns) h zero l is = eqb-false a n.address h.0 (sym is)
 each-nowhere a (n ∷ ns) h (suc i) l is = each-nowhere a ns h.1 i (omega (arith, l)) is
 
 pub first_found : (ns : List Node) → IsTree ns → (a at : ℕ) → at < length ns → (node ns at).address ≡ a → IsFirstAt a (addresses_of ns) at
-first_found ns t a at l is = first-each a ns at l is (λ i k e.
-    let same = one_place ns t i at (omega (arith, k, l)) l (e ∙ sym is) in absurd (omega (arith, k, same)))
+first_found ns t a at l is = grind (arith, first-each, one_place)
 
 pub nowhere_missing : (ns : List Node) → IsTree ns → (a at : ℕ) (high : Bool) → IsMissing ns a at high → IsNowhere a (addresses_of ns)
 nowhere_missing ns t a at high m = nowhere-each a ns (no_place ns t a at high m)

@@ -22,3 +22,5 @@ pub use Rattle.tva_shim.specs.declared.entries.Entry.{Entry}
 pub use Rattle.tva_shim.specs.declared.kinds.Kind.{Kind}
 pub use Rattle.tva_shim.specs.declared.kinds.ReturnInfo.{ReturnInfo}
 pub use Rattle.tva_shim.specs.declared.kinds.Shown.{Shown}
+pub use Rattle.std.proofs.lemmas.Bool.Decides.{nat_tests}
+pub use Rattle.std.proofs.lemmas.Grind.{common_steps}

@@ -8,3 +8,4 @@ pub mod Reading
 pub mod RightsRead
 pub mod Wholes
 pub mod Readable
+pub mod Nothing

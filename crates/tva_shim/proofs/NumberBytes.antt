@@ -9,8 +9,7 @@ abbrev pub AreBytes : List ℕ → Type 0
 AreBytes bytes = (i : ℕ) → get_or bytes i 0 < 256
 
 byte_at-pow : (k x : ℕ) → byte_at k x ≡ x / 256 ^ k % 256
-byte_at-pow zero x = ap (λ (y : ℕ). y % 256) (sym (div-one x))
-byte_at-pow (suc k) x = refl
+byte_at-pow k x = grind (arith, div-one)
 
 pow-above_zero : (n : ℕ) → zero < 256 ^ n
 pow-above_zero n = omega (arith, one-le-pow n 256 (omega arith))
@@ -34,15 +33,11 @@ byte_at-below k m high low h =
 
 bytes-below : (n m high low : ℕ) → n ≤ m → bytes_high_first n (high * 256 ^ m + low) ≡ bytes_high_first n low
 bytes-below zero m high low h = refl
-bytes-below (suc n) m high low h =
-    let first = byte_at-below n m high low (omega arith) in
-    let rest = bytes-below n m high low (omega arith) in
-    rw (first, rest) refl
+bytes-below (suc n) m high low h = cc (byte_at-below n m high low (omega arith), bytes-below n m high low (omega arith))
 
 -- the highest byte is what stands above the others
 byte_at-high : (n high low : ℕ) → high < 256 → low < 256 ^ n → byte_at n (high * 256 ^ n + low) ≡ high
-byte_at-high n high low h l =
-    byte_at-pow n (high * 256 ^ n + low) ∙ ap (λ (y : ℕ). y % 256) (div-mul-add high (256 ^ n) low l) ∙ mod-eq_of_lt h
+byte_at-high n high low h l = cc (byte_at-pow n (high * 256 ^ n + low), div-mul-add high (256 ^ n) low l, mod-eq_of_lt h)
 
 -- the bytes of the number in the first n bytes are those bytes
 bytes-of_number : (n : ℕ) (xs : List ℕ) → AreBytes xs → n ≤ length xs → big_bytes n (big_number n xs) ≡ take n xs
@@ -58,32 +53,12 @@ bytes-of_number (suc n) (x ∷ xs) are long =
 
 -- fewer bytes than a number has begin with none
 pub number_missing : (n limit : ℕ) (bytes_of : ℕ → List ℕ) → ((x : ℕ) → bytes_of x ≡ big_bytes n x) → (bytes : List ℕ) → length bytes < n → Reads (IsBelow limit) bytes_of bytes None
-number_missing n limit bytes_of are bytes short = record {
-  found = tt;
-  only = λ x rest fits is.
-      let long : length bytes ≡ n + length rest =
-      ap length (is ∙ ap (λ ys. ys ++ rest) (are x)) ∙ length-append (big_bytes n x) rest ∙ ap (λ k. k + length rest) (length-bytes_high_first n x) in
-      absurd (omega arith);
-}
+number_missing n limit bytes_of are bytes short = grind (arith, length-append, big_bytes, length-bytes_high_first)
 
 -- other bytes begin with the number that they read as, and with no other
 pub number_read : (n limit : ℕ) (bytes_of : ℕ → List ℕ) → ((x : ℕ) → bytes_of x ≡ big_bytes n x) → limit ≡ 256 ^ n → (bytes front rest : List ℕ) (x : ℕ)
     → AreBytes bytes → n ≤ length bytes → front ≡ take n bytes → rest ≡ drop n bytes → x ≡ big_number n front → Reads (IsBelow limit) bytes_of bytes (Some (x, rest))
-number_read n limit bytes_of are top bytes front rest x fits long front-is rest-is x-is =
-    let x-all : x ≡ big_number n bytes = x-is ∙ ap (big_number n) front-is ∙ big_from-take 0 n n bytes (omega arith) in
-    let below : big_number n bytes < 256 ^ n = big_from-lt 0 n bytes fits in
-    record {
-      found = (
-        omega arith,
-        sym (ap (λ ys. ys ++ rest) (are x ∙ ap (big_bytes n) x-all ∙ bytes-of_number n bytes fits long)
-            ∙ ap (λ ys. take n bytes ++ ys) rest-is ∙ take-append-drop n bytes),
-      );
-      only = λ y tail small is.
-          let begins : bytes ≡ big_bytes n y ++ tail = is ∙ ap (λ ys. ys ++ tail) (are y) in
-          let same : x ≡ y = x-all ∙ ap (big_number n) begins ∙ big_number-reads_back n y tail (omega arith) in
-          let left : rest ≡ tail = rest-is ∙ ap (drop n) begins ∙ drop_at (big_bytes n y) tail n (length-bytes_high_first n y) in
-          cc;
-    }
+number_read n limit bytes_of are top bytes front rest x fits long front-is rest-is x-is = grind (arith, big_number, big_from-take, big_from-lt, big_bytes, bytes-of_number, take-append-drop, big_number-reads_back, drop_at, length-bytes_high_first)
 
 pub two_bytes-is : (n : ℕ) → two_bytes n ≡ big_bytes 2 n
 unfolding two_bytes
@@ -103,7 +78,4 @@ number_bytes-is version n = refl
 
 -- a number that was written to the front of some bytes stands there
 pub front_written : (version n size : ℕ) (rest written : List ℕ) → size ≡ rights_size version → written ≡ big_bytes size n ++ rest → take size written ≡ number_bytes version n
-front_written version n size rest written is all =
-    let long : length (big_bytes size n) ≡ size = length-bytes_high_first size n in
-    ap (take size) all ∙ take-append-le size (big_bytes size n) rest (omega arith) ∙ take_all size (big_bytes size n) (omega arith)
-    ∙ ap (λ k. big_bytes k n) is ∙ sym (number_bytes-is version n)
+front_written version n size rest written is all = grind (arith, big_bytes, length-bytes_high_first, take-append-le, take_all, number_bytes-is)

@@ -1,5 +1,5 @@
 -- Bytes are the layout of one shim, or of none: at their front each part is read, or doesn't stand there.
-use Rattle.tva_shim.proofs.Common.{◌≡◌, ◌⊎◌, inl, inr, ℕ, zero, suc, ◌+◌, ◌*◌, ◌/◌, ◌%◌, ◌^◌, ◌≤◌, Bool, true, false, List, [], ◌∷◌, ◌++◌, length, drop, Option, Some, None, refl, sym, ap, subst, ◌∙◌, append-nil, arith, ◌==◌, flat_map, drop_at, All-nil, All-cons, All-head, All-tail, big_bytes, big_number, big_number-reads_back, length-bytes_high_first, Rights, AreRights, rights_number, rights_size, seconds_max, units_max, number_fits, rights_from, same_rights, ShimType, Entry, Shown, Kind, ReturnInfo, IsCap, IsEntry, ShimData, IsShim, two_bytes, six_bytes, eight_bytes, rights_bytes, entry_bytes, shown_bytes, kind_bytes, return_bytes, demoted_bit, layout, Reads, IsBelow, IsAtMost, one_byte, AreSoMany, IsWholeShown, IsType, type_bytes, returns_bit, IsKindPart, IsReturnPart, IsGrant, grant_bytes}
+use Rattle.tva_shim.proofs.Common.{◌≡◌, ◌⊎◌, inl, inr, ℕ, zero, suc, ◌+◌, ◌*◌, ◌/◌, ◌%◌, ◌^◌, ◌≤◌, Bool, true, false, List, [], ◌∷◌, ◌++◌, length, drop, Option, Some, None, refl, sym, ap, ◌∙◌, append-nil, arith, ◌==◌, flat_map, drop_at, All-nil, All-cons, All-head, All-tail, big_bytes, big_number, big_number-reads_back, length-bytes_high_first, Rights, AreRights, rights_number, rights_size, seconds_max, number_fits, rights_from, same_rights, ShimType, Entry, Shown, Kind, ReturnInfo, IsCap, IsEntry, ShimData, IsShim, two_bytes, six_bytes, eight_bytes, rights_bytes, entry_bytes, shown_bytes, kind_bytes, return_bytes, demoted_bit, layout, Reads, IsBelow, IsAtMost, one_byte, AreSoMany, IsWholeShown, IsType, type_bytes, returns_bit, IsKindPart, IsReturnPart, IsGrant, grant_bytes}
 use Rattle.std.proofs.lemmas.Bool.Decides.{leb_tells, eqb_tells}
 use Rattle.tva_shim.specs.declared.kinds.Kind.TheVariants as kinds
 use Rattle.tva_shim.specs.declared.kinds.ReturnInfo.TheVariants as backs
@@ -48,9 +48,7 @@ abbrev IsKnown : Type 0 → Type 0
 IsKnown P = P ⊎ (P → ⊥)
 
 both_known : {P Q : Type 0} → IsKnown P → IsKnown Q → IsKnown (P × Q)
-both_known (inl p) (inl q) = inl (p, q)
-both_known (inl p) (inr n) = inr (λ b. n b.1)
-both_known (inr n) q = inr (λ b. n b.0)
+both_known h1 q = grind arith
 
 at_most_known : (a b : ℕ) → IsKnown (a ≤ b)
 at_most_known a b = elim (leb_tells a b) [ inl t ↦ inl t.1 | inr f ↦ inr (λ h. absurd (omega (arith, f.1))) ]
@@ -59,26 +57,13 @@ same_known : (xs ys : List ℕ) → IsKnown (xs ≡ ys)
 same_known [] [] = inl refl
 same_known [] (y ∷ ys) = inr (λ e. absurd (cc))
 same_known (x ∷ xs) [] = inr (λ e. absurd (cc))
-same_known (x ∷ xs) (y ∷ ys) =
-    elim (both_known (elim (eqb_tells x y) as (λ _. IsKnown (x ≡ y)) [ inl t ↦ inl t.1 | inr f ↦ inr f.1 ]) (same_known xs ys)) [
-      | inl same ↦ inl (let first = same.0 in let rest = same.1 in cc)
-      | inr n ↦ inr (λ e. n (cc, cc))
-    ]
+same_known (x ∷ xs) (y ∷ ys) = grind (arith, both_known, eqb_tells, same_known xs ys)
 
 module _ {A : Type 0} {Is : A → Type 0} {bytes_of : A → List ℕ} {bytes : List ℕ} (x : A) (after : List ℕ)
     (one : (part : A) (rest : List ℕ) → Is part → bytes ≡ bytes_of part ++ rest → (x ≡ part) × (after ≡ rest)) where
   by_known : IsKnown (Is x × (bytes ≡ bytes_of x ++ after)) → IsReadable Is bytes_of bytes
   by_known (inl h) = (Some (x, after), record { found = h; only = λ part rest is begins. let same = one part rest is begins in let first = same.0 in let rest = same.1 in cc })
-  by_known (inr n) = (
-    None,
-    record {
-      found = tt;
-      only = λ part rest is begins.
-          let same = one part rest is begins in
-          let there : Is x = subst Is (sym same.0) is in
-          absurd (n (there, begins ∙ ap (λ p. bytes_of p ++ rest) (sym same.0) ∙ ap (λ r. bytes_of x ++ r) (sym same.1)));
-    },
-  )
+  by_known (inr n) = grind arith
 
   -- where the one that can stand there is one of those that are known
   only_readable : IsKnown (Is x) → IsReadable Is bytes_of bytes
@@ -111,11 +96,7 @@ eight_readable : (bytes : List ℕ) → IsReadable IsCap eight_bytes bytes
 eight_readable = number_readable 8 (2 ^ 64) eight_bytes eight_bytes-is refl
 
 rights_known : (version : ℕ) (r : Rights) → IsKnown (AreRights version r)
-rights_known version r =
-    elim (both_known (at_most_known r.n (units_max version)) (at_most_known r.t (seconds_max version))) [
-      | inl h ↦ inl (record { units = h.0; seconds = h.1 })
-      | inr n ↦ inr (λ are. n (are.units, are.seconds))
-    ]
+rights_known version r = grind (arith, both_known, at_most_known)
 
 -- the rights that a number at the front stands for
 rights_readable : (version : ℕ) (bytes : List ℕ) → IsReadable (AreRights version) (rights_bytes version) bytes
@@ -188,12 +169,7 @@ grant_parts version = both one_byte (λ count. both (rights_bytes version) (λ r
 
 grant_there : (version : ℕ) (p : GrantParts) → AreGrantParts version p → IsGrant version p.1 × (grant_parts version p ≡ grant_bytes version p.1)
 unfolding both
-grant_there version p are =
-    let count : length p.1.1 ≡ p.0 = are.second.second.1 in
-    let few : p.0 ≤ 16 = are.first in (
-      (are.second.first, record { few = omega arith; each = are.second.second.0 }),
-      ap (λ n. n ∷ (rights_bytes version p.1.0 ++ flat_map eight_bytes p.1.1)) (sym count),
-    )
+grant_there version p are = grind (arith, flat_map)
 
 grant_back : (version : ℕ) (grant : Rights × List ℕ) → IsGrant version grant → (p : GrantParts) × AreGrantParts version p × (grant_bytes version grant ≡ grant_parts version p) × (p.1 ≡ grant)
 unfolding both
@@ -220,47 +196,30 @@ request_parts = both one_byte (λ count. flat_map entry_bytes)
 
 request_there : (version : ℕ) (p : RequestParts) → AreRequestParts p → IsKindPart version 0 (kinds.Request p.1) × (request_parts p ≡ kind_bytes version (kinds.Request p.1))
 unfolding both
-request_there version p are =
-    let count : length p.1 ≡ p.0 = are.second.1 in
-    let few : p.0 ≤ 16 = are.first in (
-      record { kind = tt; entries = record { few = omega arith; each = are.second.0 }; caps = record { few = omega arith; each = All-nil IsCap }; code = refl },
-      ap (λ n. n ∷ flat_map entry_bytes p.1) (sym count),
-    )
+request_there version p are = grind (arith, flat_map)
 
 request_back : (version : ℕ) (k : Kind) → IsKindPart version 0 k → (p : RequestParts) × AreRequestParts p × (kind_bytes version k ≡ request_parts p) × (kinds.Request p.1 ≡ k)
 unfolding both
 request_back version (kinds.Request entries) is = ((length entries, entries), record { first = is.entries.few; second = (is.entries.each, refl) }, refl, refl)
-request_back version (kinds.List shown) is = absurd (omega (arith, is.code))
-request_back version (kinds.Nonce nonce) is = absurd (omega (arith, is.code))
-request_back version (kinds.Renewal shown) is = absurd (omega (arith, is.code))
+request_back version _ is = absurd (omega (arith, is.code))
 
 list_there : (version : ℕ) (s : Shown) → IsWholeShown version s → IsKindPart version 1 (kinds.List s) × (shown_bytes version s ≡ kind_bytes version (kinds.List s))
 list_there version s is = (record { kind = is.0; entries = record { few = omega arith; each = All-nil IsEntry }; caps = is.1; code = refl }, refl)
 
 list_back : (version : ℕ) (k : Kind) → IsKindPart version 1 k → (s : Shown) × IsWholeShown version s × (kind_bytes version k ≡ shown_bytes version s) × (kinds.List s ≡ k)
-list_back version (kinds.Request entries) is = absurd (omega (arith, is.code))
-list_back version (kinds.List shown) is = (shown, (is.kind, is.caps), refl, refl)
-list_back version (kinds.Nonce nonce) is = absurd (omega (arith, is.code))
-list_back version (kinds.Renewal shown) is = absurd (omega (arith, is.code))
+list_back version k is = grind arith
 
 nonce_there : (version n : ℕ) → IsBelow (2 ^ 48) n → IsKindPart version 2 (kinds.Nonce n) × (six_bytes n ≡ kind_bytes version (kinds.Nonce n))
-nonce_there version n is =
-    (record { kind = is; entries = record { few = omega arith; each = All-nil IsEntry }; caps = record { few = omega arith; each = All-nil IsCap }; code = refl }, refl)
+nonce_there version n is = grind arith
 
 nonce_back : (version : ℕ) (k : Kind) → IsKindPart version 2 k → (n : ℕ) × IsBelow (2 ^ 48) n × (kind_bytes version k ≡ six_bytes n) × (kinds.Nonce n ≡ k)
-nonce_back version (kinds.Request entries) is = absurd (omega (arith, is.code))
-nonce_back version (kinds.List shown) is = absurd (omega (arith, is.code))
-nonce_back version (kinds.Nonce nonce) is = (nonce, is.kind, refl, refl)
-nonce_back version (kinds.Renewal shown) is = absurd (omega (arith, is.code))
+nonce_back version k is = grind arith
 
 renewal_there : (version : ℕ) (s : Shown) → IsWholeShown version s → IsKindPart version 3 (kinds.Renewal s) × (shown_bytes version s ≡ kind_bytes version (kinds.Renewal s))
 renewal_there version s is = (record { kind = is.0; entries = record { few = omega arith; each = All-nil IsEntry }; caps = is.1; code = refl }, refl)
 
 renewal_back : (version : ℕ) (k : Kind) → IsKindPart version 3 k → (s : Shown) × IsWholeShown version s × (kind_bytes version k ≡ shown_bytes version s) × (kinds.Renewal s ≡ k)
-renewal_back version (kinds.Request entries) is = absurd (omega (arith, is.code))
-renewal_back version (kinds.List shown) is = absurd (omega (arith, is.code))
-renewal_back version (kinds.Nonce nonce) is = absurd (omega (arith, is.code))
-renewal_back version (kinds.Renewal shown) is = (shown, (is.kind, is.caps), refl, refl)
+renewal_back version k is = grind arith
 
 kind_readable : (version code : ℕ) → code ≤ 3 → (bytes : List ℕ) → IsReadable (IsKindPart version code) (kind_bytes version) bytes
 kind_readable version zero known bytes =
@@ -274,24 +233,16 @@ kind_readable version (suc (suc (suc (suc n)))) known bytes = absurd (omega arit
 -- ---- the return info
 
 no_return : (version : ℕ) (bytes : List ℕ) (part : ReturnInfo) (rest : List ℕ) → IsReturnPart version 0 part → bytes ≡ return_bytes version part ++ rest → (backs.Nothing ≡ part) × (bytes ≡ rest)
-no_return version bytes backs.Nothing rest is begins = (refl, begins)
-no_return version bytes backs.Notice rest is begins = absurd (omega (arith, is.bit))
-no_return version bytes (backs.Grant rights caps) rest is begins = absurd (omega (arith, is.bit))
+no_return version bytes part rest is begins = grind arith
 
 form_missing : (version : ℕ) (part : ReturnInfo) (rest : List ℕ) → IsReturnPart version 4 part → [] ≡ return_bytes version part ++ rest → ⊥
-form_missing version backs.Nothing rest is begins = omega (arith, is.bit)
-form_missing version backs.Notice rest is begins = absurd (cc)
-form_missing version (backs.Grant rights caps) rest is begins = absurd (cc)
+form_missing version part rest is begins = grind arith
 
 notice_only : (version form : ℕ) (mid : List ℕ) → form ≡ 1 → (part : ReturnInfo) (rest : List ℕ) → IsReturnPart version 4 part → form ∷ mid ≡ return_bytes version part ++ rest → (backs.Notice ≡ part) × (mid ≡ rest)
-notice_only version form mid one backs.Nothing rest is begins = absurd (omega (arith, is.bit))
-notice_only version form mid one backs.Notice rest is begins = (refl, cc)
-notice_only version form mid one (backs.Grant rights caps) rest is begins = let two : form ≡ 2 = cc in absurd (omega arith)
+notice_only version form mid one part rest is begins = grind arith
 
 no_form : (version form : ℕ) (mid : List ℕ) → (form ≡ 1 → ⊥) → (form ≡ 2 → ⊥) → (part : ReturnInfo) (rest : List ℕ) → IsReturnPart version 4 part → form ∷ mid ≡ return_bytes version part ++ rest → ⊥
-no_form version form mid one two backs.Nothing rest is begins = omega (arith, is.bit)
-no_form version form mid one two backs.Notice rest is begins = one (cc)
-no_form version form mid one two (backs.Grant rights caps) rest is begins = two (cc)
+no_form version form mid one two part rest is begins = grind arith
 
 granted_by : (version form : ℕ) (mid : List ℕ) → form ≡ 2 → (answer : Option ((Rights × List ℕ) × List ℕ)) → Reads (IsGrant version) (grant_bytes version) mid answer
     → IsReadable (IsReturnPart version (returns_bit true)) (return_bytes version) (form ∷ mid)
@@ -334,9 +285,7 @@ type_in n = type_from (n / 16) (n / 8 % 2 == 1) (n / 4 % 2 == 1) (n % 4)
 
 type_same : (version v : ℕ) (demoted d returns r : Bool) (kind k : ℕ) → version ≡ v → demoted ≡ d → returns ≡ r → kind ≡ k
     → type_from version demoted returns kind ≡ type_from v d r k
-type_same version v demoted d returns r kind k ev ed er ek =
-    ap (λ (x : ℕ). type_from x demoted returns kind) ev ∙ ap (λ (x : Bool). type_from v x returns kind) ed
-    ∙ ap (λ (x : Bool). type_from v d x kind) er ∙ ap (λ (x : ℕ). type_from v d r x) ek
+type_same version v demoted d returns r kind k ev ed er ek = cc
 
 bit_at : (n k b : ℕ) → n / k % 2 ≡ b → (n / k % 2 == 1) ≡ (b == 1)
 bit_at n k b e = ap (λ x. x == 1) e
@@ -344,10 +293,7 @@ bit_at n k b e = ap (λ x. x == 1) e
 type_again : (version : ℕ) (demoted returns : Bool) (kind : ℕ) → kind ≤ 3
     → type_in (version * 16 + demoted_bit demoted + returns_bit returns + kind) ≡ type_from version demoted returns kind
 unfolding type_in
-type_again v true true k few = let n : ℕ = v * 16 + 8 + 4 + k in type_same _ _ _ _ _ _ _ _ (omega arith) (bit_at n 8 1 (omega arith)) (bit_at n 4 1 (omega arith)) (omega arith)
-type_again v true false k few = let n : ℕ = v * 16 + 8 + 0 + k in type_same _ _ _ _ _ _ _ _ (omega arith) (bit_at n 8 1 (omega arith)) (bit_at n 4 0 (omega arith)) (omega arith)
-type_again v false true k few = let n : ℕ = v * 16 + 0 + 4 + k in type_same _ _ _ _ _ _ _ _ (omega arith) (bit_at n 8 0 (omega arith)) (bit_at n 4 1 (omega arith)) (omega arith)
-type_again v false false k few = let n : ℕ = v * 16 + 0 + 0 + k in type_same _ _ _ _ _ _ _ _ (omega arith) (bit_at n 8 0 (omega arith)) (bit_at n 4 0 (omega arith)) (omega arith)
+type_again v demoted returns k few = grind (arith, type_same, bit_at)
 
 type_is : (t : ShimType) → type_from t.version t.demoted t.returns t.kind ≡ t
 unfolding type_from
@@ -355,11 +301,7 @@ type_is t = refl
 
 type_known : (n : ℕ) → IsKnown (IsType (type_in n))
 unfolding type_in type_from
-type_known byte =
-    elim (both_known (at_most_known 1 (byte / 16)) (at_most_known (byte / 16) 2)) [
-      | inl h ↦ inl (record { version = record { from = h.0; to = h.1 }; kind = omega arith })
-      | inr n ↦ inr (λ is. n (is.version.from, is.version.to))
-    ]
+type_known byte = grind (arith, both_known, at_most_known)
 
 type_readable : (bytes : List ℕ) → IsReadable IsType type_bytes bytes
 type_readable [] = (None, record { found = tt; only = λ t rest is begins. absurd (cc) })

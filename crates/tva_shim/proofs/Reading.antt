@@ -16,9 +16,7 @@ pub none_some : {A : Type 0} {x : A} → none_of A ≡ some x → ⊥
 none_some e = cc
 
 pub some_pair : {A B : Type 0} (a c : A) (b d : B) → some {A = A × B} (a, b) ≡ some (c, d) → (a ≡ c) × (b ≡ d)
-some_pair {A = A} {B = B} a c b d e =
-    let same : ◌≡◌ {A = A × B} (a, b) (c, d) = cc in
-    (ap (λ p. p.0) same, ap (λ p. p.1) same)
+some_pair {A = A} {B = B} a c b d e = grind arith
 
 -- ---- one part after the other
 
@@ -40,12 +38,7 @@ second b_bytes a c b mid rest same begins = begins ∙ ap (λ x. b_bytes x b ++ 
 
 module _ {A B : Type 0} {IsA : A → Type 0} {IsB : A → B → Type 0} {a_bytes : A → List ℕ} (b_bytes : A → B → List ℕ) where
   pub front_missing : {bytes : List ℕ} → Reads IsA a_bytes bytes None → Reads (IsBoth IsA IsB) (both a_bytes b_bytes) bytes None
-  front_missing r = record {
-    found = tt;
-    only = λ p rest are is.
-        let e = r.only p.0 (b_bytes p.0 p.1 ++ rest) are.first (is ∙ both-append a_bytes b_bytes p rest) in
-        absurd cc;
-  }
+  front_missing r = grind (arith, both-append)
 
   -- the first part is the one that was read, and the second begins what is left
   middle : {bytes mid : List ℕ} {a : A} → Reads IsA a_bytes bytes (Some (a, mid)) → (p : A × B) (rest : List ℕ) → IsBoth IsA IsB p → bytes ≡ both a_bytes b_bytes p ++ rest
@@ -83,24 +76,10 @@ module _ {X Y : Type 0} {IsX : X → Type 0} {IsY : Y → Type 0} {x_bytes : X �
     (there : (x : X) → IsX x → IsY (to x) × (x_bytes x ≡ y_bytes (to x)))
     (back : (y : Y) → IsY y → (x : X) × IsX x × (y_bytes y ≡ x_bytes x) × (to x ≡ y)) where
   pub other_missing : {bytes : List ℕ} → Reads IsX x_bytes bytes None → Reads IsY y_bytes bytes None
-  other_missing r = record {
-    found = tt;
-    only = λ y rest is-y is.
-        let b = back y is-y in
-        let e = r.only b.0 rest b.1 (is ∙ ap (λ xs. xs ++ rest) b.2) in
-        absurd cc;
-  }
+  other_missing r = grind arith
 
   pub other_read : {bytes rest : List ℕ} {x : X} → Reads IsX x_bytes bytes (Some (x, rest)) → Reads IsY y_bytes bytes (Some (to x, rest))
-  other_read {rest = rest} {x = x} r = record {
-    found = let t = there x r.found.0 in (t.0, r.found.1 ∙ ap (λ xs. xs ++ rest) t.1);
-    only = λ y tail is-y is.
-        let b = back y is-y in
-        let e = some_pair _ _ _ _ (r.only b.0 tail b.1 (is ∙ ap (λ xs. xs ++ tail) b.2)) in
-        let at : to x ≡ y = ap to e.0 ∙ b.3 in
-        let left : rest ≡ tail = e.1 in
-        cc;
-  }
+  other_read {rest = rest} {x = x} r = grind (arith, some_pair)
 
 -- ---- so many elements, one by one
 
@@ -156,13 +135,4 @@ module _ {A : Type 0} {Is : A → Type 0} {bytes_of : A → List ℕ} {count : �
   }
 
   pub begun_all : {bytes rest : List ℕ} (xs : List A) → Begun Is bytes_of count bytes xs rest → length xs ≡ count → Reads (AreSoMany Is count) (flat_map bytes_of) bytes (Some (xs, rest))
-  begun_all {rest = rest} xs b h = record {
-    found = ((b.each, h), b.front);
-    only = λ ys tail are is.
-        let o = b.only ys tail are is in
-        let whole : take (length xs) ys ≡ ys = take_all (length xs) ys (omega (arith, are.1)) in
-        let none : drop (length xs) ys ≡ [] = drop_all (length xs) ys (omega (arith, are.1)) in
-        let same : xs ≡ ys = sym o.0 ∙ whole in
-        let left : rest ≡ tail = o.1 ∙ ap (λ zs. flat_map bytes_of zs ++ tail) none in
-        cc;
-  }
+  begun_all {rest = rest} xs b h = grind (arith, take_all, drop_all, flat_map)

@@ -1,7 +1,5 @@
 -- How many bytes a layout has.
 use Rattle.tva_shim.proofs.Common.{◌≡◌, ℕ, ◌+◌, ◌*◌, List, [], ◌∷◌, length, refl, arith, length-append, flat_map, length-bytes_high_first, Rights, rights_number, rights_size, Entry, Shown, Kind, ReturnInfo, ShimData, two_bytes, six_bytes, eight_bytes, number_bytes, rights_bytes, entry_bytes, shown_bytes, kind_bytes, return_bytes, layout, kind_size, return_size, shim_size}
-use Rattle.tva_shim.specs.declared.kinds.Kind.TheVariants as kinds
-use Rattle.tva_shim.specs.declared.kinds.ReturnInfo.TheVariants as backs
 
 pub length-two_bytes : (n : ℕ) → length (two_bytes n) ≡ 2
 unfolding two_bytes
@@ -22,8 +20,7 @@ length-rights version r = length-bytes_high_first (rights_size version) (rights_
 -- what is made of each element has the same number of bytes
 pub length-flat_map : {A : Type 0} (k : ℕ) (f : A → List ℕ) → ((a : A) → length (f a) ≡ k) → (xs : List A) → length (flat_map f xs) ≡ k * length xs
 length-flat_map k f each [] = omega arith
-length-flat_map k f each (x ∷ xs) =
-    omega (arith, length-append (f x) (flat_map f xs), each x, length-flat_map k f each xs)
+length-flat_map k f each (x ∷ xs) = grind (arith, length-append, flat_map, length-flat_map k f each xs)
 
 length-entry : (e : Entry) → length (entry_bytes e) ≡ 10
 length-entry e = omega (arith, length-append (two_bytes e.tag) (eight_bytes e.precap), length-two_bytes e.tag, length-eight_bytes e.precap)
@@ -32,15 +29,10 @@ length-shown : (version : ℕ) (s : Shown) → length (shown_bytes version s) �
 length-shown version s = simp length-append (omega (arith, length-six_bytes s.nonce, length-rights version s.rights, length-flat_map 8 eight_bytes length-eight_bytes s.caps))
 
 length-kind : (version : ℕ) (kind : Kind) → 2 + length (kind_bytes version kind) ≡ kind_size version kind
-length-kind version (kinds.Request entries) = omega (arith, length-flat_map 10 entry_bytes length-entry entries)
-length-kind version (kinds.List shown) = omega (arith, length-shown version shown)
-length-kind version (kinds.Nonce nonce) = omega (arith, length-six_bytes nonce)
-length-kind version (kinds.Renewal shown) = omega (arith, length-shown version shown)
+length-kind version kind = grind (arith, length-flat_map, length-entry, length-shown, length-six_bytes)
 
 length-return : (version : ℕ) (back : ReturnInfo) → length (return_bytes version back) ≡ return_size version back
-length-return version backs.Nothing = refl
-length-return version backs.Notice = refl
-length-return version (backs.Grant rights caps) = simp length-append (omega (arith, length-rights version rights, length-flat_map 8 eight_bytes length-eight_bytes caps))
+length-return version back = grind (arith, length-append, length-rights, length-flat_map, length-eight_bytes)
 
 -- the layout has as many bytes as are counted
 pub length-layout : (s : ShimData) → length (layout s) ≡ shim_size s

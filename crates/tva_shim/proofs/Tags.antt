@@ -8,9 +8,8 @@ abbrev before : List ℕ → ℕ
 before ns = last_but_one_or_zero (filter (nat_lt 0) ns)
 
 last_or_zero-push : (ns : List ℕ) (n : ℕ) → last_or_zero (ns ++ n ∷ []) ≡ n
-last_or_zero-push [] n = refl
-last_or_zero-push (m ∷ []) n = refl
 last_or_zero-push (m ∷ k ∷ ns) n = last_or_zero-push (k ∷ ns) n
+last_or_zero-push _ n = refl
 
 last_or_zero-chosen : (b : Bool) (ns : List ℕ) (n : ℕ) → last_or_zero (ns ++ cond b (n ∷ []) []) ≡ cond b n (last_or_zero ns)
 last_or_zero-chosen true ns n = last_or_zero-push ns n
@@ -27,10 +26,8 @@ last-more ns i d so_far next h is one_more =
 -- ## the one before
 
 last_but_one-push : (ns : List ℕ) (n : ℕ) → last_but_one_or_zero (ns ++ n ∷ []) ≡ last_or_zero ns
-last_but_one-push [] n = refl
-last_but_one-push (m ∷ []) n = refl
-last_but_one-push (m ∷ k ∷ []) n = refl
 last_but_one-push (m ∷ k ∷ j ∷ ns) n = last_but_one-push (k ∷ j ∷ ns) n
+last_but_one-push _ n = refl
 
 last_but_one-chosen : (b : Bool) (ns : List ℕ) (n : ℕ)
     → last_but_one_or_zero (ns ++ cond b (n ∷ []) []) ≡ cond b (last_or_zero ns) (last_but_one_or_zero ns)

@@ -1,6 +1,5 @@
 -- What is shown, a grant and a shim are read as their parts are.
-use Rattle.tva_shim.proofs.Common.{◌≡◌, ℕ, ◌+◌, ◌*◌, ◌^◌, ◌≤◌, Bool, true, false, List, [], ◌∷◌, ◌++◌, length, Some, None, refl, sym, ap, ◌∙◌, append_assoc, append-nil, arith, ◌==◌, flat_map, Rights, AreRights, ShimType, Shown, Kind, ReturnInfo, IsCap, ShimData, IsShim, six_bytes, eight_bytes, rights_bytes, shown_bytes, kind_bytes, kind_code, return_bytes, return_bit, demoted_bit, layout, Reads, IsBelow, IsAtMost, one_byte, AreSoMany, IsWholeShown, IsType, type_bytes, returns_bit, IsKindPart, IsReturnPart, IsGrant, grant_bytes}
-use Rattle.tva_shim.specs.declared.kinds.Kind.TheVariants as kinds
+use Rattle.tva_shim.proofs.Common.{◌≡◌, ℕ, ◌+◌, ◌*◌, ◌^◌, ◌≤◌, Bool, true, false, List, [], ◌∷◌, ◌++◌, length, Some, None, refl, ap, ◌∙◌, append_assoc, append-nil, arith, ◌==◌, flat_map, Rights, AreRights, ShimType, Shown, Kind, ReturnInfo, IsCap, ShimData, IsShim, six_bytes, eight_bytes, rights_bytes, shown_bytes, kind_bytes, kind_code, return_bytes, return_bit, demoted_bit, layout, Reads, IsBelow, IsAtMost, one_byte, AreSoMany, IsWholeShown, IsType, type_bytes, returns_bit, IsKindPart, IsReturnPart, IsGrant, grant_bytes}
 use Rattle.tva_shim.specs.declared.kinds.ReturnInfo.TheVariants as backs
 use Rattle.tva_shim.proofs.Reading.{IsBoth, both, some_pair}
 
@@ -23,17 +22,7 @@ shown-regrouped a n m r c = simp append_assoc
 
 pub shown_there : (version : ℕ) (p : ShownParts) → AreShownParts version p → IsWholeShown version (shown_of p) × (shown_parts version p ≡ shown_bytes version (shown_of p))
 unfolding both
-shown_there version p are =
-    let count : length p.1.1.1.1 ≡ p.1.0 = are.second.second.second.second.1 in
-    let few : p.1.0 ≤ 16 = are.second.first in
-    let within : p.1.1.0 ≤ p.1.0 = are.second.second.first in (
-      (
-        record { nonce = are.first; pointer = omega arith; rights = are.second.second.second.first },
-        record { few = omega arith; each = are.second.second.second.second.0 },
-      ),
-      ap (λ n. six_bytes p.0 ++ (n ∷ p.1.1.0 ∷ (rights_bytes version p.1.1.1.0 ++ flat_map eight_bytes p.1.1.1.1))) (sym count)
-          ∙ sym (shown-regrouped (six_bytes p.0) (length p.1.1.1.1) p.1.1.0 (rights_bytes version p.1.1.1.0) (flat_map eight_bytes p.1.1.1.1)),
-    )
+shown_there version p are = grind (arith, flat_map, shown-regrouped)
 
 pub shown_back : (version : ℕ) (s : Shown) → IsWholeShown version s → (p : ShownParts) × AreShownParts version p × (shown_bytes version s ≡ shown_parts version p) × (shown_of p ≡ s)
 unfolding both
@@ -64,13 +53,7 @@ shim_of p = record { version = p.0.version; demoted = p.0.demoted; protocol = p.
 
 pub shim_there : (p : ShimParts) → AreShimParts p → IsShim (shim_of p) × (shim_parts p ≡ layout (shim_of p))
 unfolding both layout
-shim_there p are =
-    let kind = are.second.second.first in
-    let back = are.second.second.second in (
-      record { version = are.first.version; protocol = omega (arith, are.second.first); kind = kind.kind; entries = kind.entries; caps = kind.caps; back = back.back; granted = back.granted },
-      ap (λ n. (p.0.version * 16 + demoted_bit p.0.demoted + n + p.0.kind) ∷ p.1.0 ∷ (kind_bytes p.0.version p.1.1.0 ++ return_bytes p.0.version p.1.1.1)) (sym back.bit)
-          ∙ ap (λ n. (p.0.version * 16 + demoted_bit p.0.demoted + return_bit p.1.1.1 + n) ∷ p.1.0 ∷ (kind_bytes p.0.version p.1.1.0 ++ return_bytes p.0.version p.1.1.1)) (sym kind.code),
-    )
+shim_there p are = grind arith
 
 abbrev has_return : ReturnInfo → Bool
 has_return backs.Nothing = false
@@ -78,15 +61,10 @@ has_return backs.Notice = true
 has_return (backs.Grant rights caps) = true
 
 return_bit-is : (back : ReturnInfo) → return_bit back ≡ returns_bit (has_return back)
-return_bit-is backs.Nothing = refl
-return_bit-is backs.Notice = refl
-return_bit-is (backs.Grant rights caps) = refl
+return_bit-is back = grind arith
 
 kind_code-small : (kind : Kind) → kind_code kind ≤ 3
-kind_code-small (kinds.Request entries) = omega arith
-kind_code-small (kinds.List shown) = omega arith
-kind_code-small (kinds.Nonce nonce) = omega arith
-kind_code-small (kinds.Renewal shown) = omega arith
+kind_code-small kind = grind arith
 
 pub shim_back : (s : ShimData) → IsShim s → (p : ShimParts) × AreShimParts p × (layout s ≡ shim_parts p) × (shim_of p ≡ s)
 unfolding both layout
@@ -112,9 +90,7 @@ shim_back s is = (
 granted : {bytes mid : List ℕ} (version form : ℕ) → form ≡ 2 → Reads (IsAtMost 255) one_byte bytes (Some (form, mid)) → (back : ReturnInfo) (rest : List ℕ) → IsReturnPart version 4 back
     → bytes ≡ return_bytes version back ++ rest → (grant : Rights × List ℕ) × IsGrant version grant × (mid ≡ grant_bytes version grant ++ rest) × (backs.Grant grant.0 grant.1 ≡ back)
 granted version form form-is r backs.Nothing rest is begins = absurd (omega (arith, is.bit))
-granted version form form-is r backs.Notice rest is begins =
-    let e = some_pair _ _ _ _ (r.only 1 rest (omega arith) begins) in
-    absurd (omega (arith, e.0))
+granted version form form-is r backs.Notice rest is begins = cc
 granted version form form-is r (backs.Grant rights caps) rest is begins =
     let e = some_pair _ _ _ _ (r.only 2 (grant_bytes version (rights, caps) ++ rest) (omega arith) begins) in
     ((rights, caps), (is.back, is.granted), e.1, refl)
@@ -147,7 +123,4 @@ grant_read {mid = mid} {rest = rest} version returns there form form-is rights c
 -- ---- bytes after a shim
 
 pub bytes_after : {bytes rest : List ℕ} {shim : ShimData} → Reads IsShim layout bytes (Some (shim, rest)) → (length rest == 0) ≡ false → (s : ShimData) → IsShim s → layout s ≡ bytes → ⊥
-bytes_after {rest = rest} r spare s is same =
-    let e = some_pair _ _ _ _ (r.only s [] is (sym same ∙ sym (append-nil (layout s)))) in
-    let some_left : rest ≡ [] → ⊥ = λ none. let test : (0 == 0) ≡ false = ap (λ n. n == 0) (ap length (sym none)) ∙ spare in absurd cc in
-    some_left e.1
+bytes_after {rest = rest} r spare s is same = grind (arith, some_pair, append-nil)

@@ -1,15 +1,15 @@
 -- How many rows of each node begin a transfer.
-use Rattle.tva_trace.proofs.Common.{◌≡◌, ◌∙◌, sym, ap, refl, subst, ℕ, ◌+◌, ◌==◌, ◌≤◌, ◌<◌, List, [], ◌∷◌, ◌++◌, Option, Some, None, IfSome, cond, Bool, true, false, ◌&&◌, inl, inr, arith, and_right, ltb-true, eqb_tells, nat_eq, unwrap_or, Config, is_host, Row, RowWhat, SaidRow, SaidWhat, Counts, FindsRoom, counted, Means, MeansWhat, filed_by, has_room, times, begins, files_at, IsSaid, IsSaidWhat}
+use Rattle.tva_trace.proofs.Common.{◌≡◌, ◌∙◌, sym, ap, refl, subst, ℕ, ◌+◌, ◌==◌, ◌≤◌, ◌<◌, List, [], ◌∷◌, ◌++◌, cond, Bool, true, false, ◌&&◌, inl, inr, arith, and_right, ltb-true, eqb_tells, nat_eq, unwrap_or, Row, RowWhat, SaidRow, SaidWhat, Counts, FindsRoom, counted, Means, MeansWhat, filed_by, has_room, times, begins, files_at, IsSaidWhat}
 use Rattle.std.proofs.Math.Bool.{and-true}
 use Rattle.std.proofs.lemmas.List.Sums.{sum_by-append}
 use Rattle.std.specs.HashMap.{HashMap}
 use Rattle.std.specs.Map.{lookup}
 use Rattle.tva_trace.specs.declared.said.SaidWhat.TheVariants as say
 
-times-append : (a b : List ℕ) (node : ℕ) → times (a ++ b) node ≡ times a node + times b node
+pub times-append : (a b : List ℕ) (node : ℕ) → times (a ++ b) node ≡ times a node + times b node
 times-append a b node = sum_by-append (λ n. cond (n == node) 1 0) a b
 
-files_at-append : (node : ℕ) (a b : List Row) → files_at node (a ++ b) ≡ files_at node a + files_at node b
+pub files_at-append : (node : ℕ) (a b : List Row) → files_at node (a ++ b) ≡ files_at node a + files_at node b
 files_at-append node a b = sum_by-append (λ row. cond ((row.node == node) && begins row.what) 1 0) a b
 
 -- where no node is counted, each has none
@@ -49,15 +49,9 @@ what_filed node n (say.Tick dst) w m = begins_as node n w false (ap begins m) �
 files_at-one : (node : ℕ) (row : Row) → files_at node (row ∷ []) ≡ one_if ((row.node == node) && begins row.what)
 files_at-one node row = omega arith
 
-row_filed : (node : ℕ) (said : SaidRow) (row : Row) → Means said row → files_at node (row ∷ []) ≡ times (filed_by said.node said.what) node
+pub row_filed : (node : ℕ) (said : SaidRow) (row : Row) → Means said row → files_at node (row ∷ []) ≡ times (filed_by said.node said.what) node
 row_filed node said row m =
     files_at-one node row ∙ ap (λ n. one_if ((n == node) && begins row.what)) m.1 ∙ what_filed node said.node said.what row.what m.2
-
-pub files_more : (node : ℕ) (rows : List Row) (filed : List ℕ) (said : SaidRow) (row : Row) → files_at node rows ≡ times filed node → Means said row
-    → files_at node (rows ++ row ∷ []) ≡ times (filed ++ filed_by said.node said.what) node
-files_more node rows filed said row are m =
-    files_at-append node rows (row ∷ []) ∙ ap (λ n. n + files_at node (row ∷ [])) are
-    ∙ ap (λ n. times filed node + n) (row_filed node said row m) ∙ sym (times-append filed (filed_by said.node said.what) node)
 
 -- a row that is said finds room
 pub finds_room : (at_host : Bool) (files : ℕ → ℕ) (node : ℕ) (said : SaidWhat) → IsSaidWhat at_host (has_room files node) said → FindsRoom files node said
@@ -65,10 +59,6 @@ finds_room at_host files node (say.Send dst payload) h = tt
 finds_room at_host files node (say.Inject flow payload shim) h = tt
 finds_room at_host files node (say.File dst size segment) h = h.1
 finds_room at_host files node (say.Tick dst) h = tt
-
-pub find_room : (config : Config) (last : ℕ) (files : ℕ → ℕ) (said : Option SaidRow) → IfSome said (IsSaid config last files) → IfSome said (λ row. FindsRoom files row.node row.what)
-find_room config last files None h = tt
-find_room config last files (Some said) h = finds_room (is_host config.nodes said.node) files said.node said.what h.what
 
 -- with one more there are no more than there may be
 none_more : (filed : List ℕ) (node : ℕ) → times filed node ≤ 65536 → times (filed ++ []) node ≤ 65536

@@ -1,26 +1,19 @@
 -- How far a trace is read.
-use Rattle.tva_trace.proofs.Common.{◌≡◌, ◌∙◌, sym, ap, refl, ℕ, ◌+◌, ◌≤◌, ◌==◌, List, [], ◌∷◌, ◌++◌, ◌-◌, length, length-append, append_assoc, Option, Some, None, Result, Ok, Err, cond, Bool, true, false, Bor, inl, inr, arith, eqb_tells, AllZip, eqb-true, append-nil, eq-eqb, rows-end, ExplainsRead, ReadRecord, Ready, default_config, source_of, strip_bom, Reader, Config, Row, TraceRule, TraceFault, SaidRow, Counts, FindsRoom, filed_in, Ruled, behind, row_fault, filed_by, has_room, is_header, row_of, rows_from, rows_of, rows_under, said_by, some_row, then_rows, times, AreRows, CarriedBy, IsPut, Means, MeansWhat, IfSome, subst, All, Carried, RowWhat, SaidShim, Bytes, Built, SaidWhat, is_host, AreTraceRows, IsRow, IsRowWhat, NeverFall, files_at, IsSaid, IsSaidShim, IsSaidWhat}
+use Rattle.tva_trace.proofs.Common.{◌≡◌, ◌∙◌, sym, ap, refl, ℕ, ◌+◌, ◌≤◌, ◌==◌, List, [], ◌∷◌, ◌++◌, ◌-◌, append_assoc, Option, Some, None, Result, Ok, Err, cond, Bool, true, false, Bor, inl, inr, arith, eqb_tells, AllZip, eqb-true, append-nil, eq-eqb, rows-end, ExplainsRead, ReadRecord, Ready, default_config, source_of, strip_bom, Reader, Config, Row, TraceRule, TraceFault, SaidRow, Counts, filed_in, Ruled, behind, row_fault, filed_by, is_header, row_of, rows_from, rows_of, rows_under, said_by, some_row, then_rows, times, AreRows, IsPut, Means}
 use Rattle.csv.specs.declared.parser.State.TheVariants as st
 use Rattle.csv.specs.declared.error.ErrorKind.{ErrorKind}
 use Rattle.csv.specs.declared.error.ErrorKind.TheVariants as why
 use Rattle.tva_trace.specs.Shortage.{IsShortage}
 use Rattle.csv.specs.declared.reader.Trim.TheVariants as trim
-use Rattle.std.proofs.lemmas.List.Elements.{All-push}
 use Rattle.tva_trace.specs.declared.rows.TraceRule.TheVariants as rule
 use Rattle.tva_shim.specs.declared.packets.Carried.TheVariants as carried
 use Rattle.tva_trace.specs.declared.said.SaidWhat.TheVariants as say
-use Rattle.tva_shim.specs.Packets.{IsWithinWidths}
-use Rattle.tva_trace.proofs.FileCounts.{counts_more, counts_same, files_more, finds_room, room_left}
+use Rattle.tva_trace.proofs.FileCounts.{counts_more, counts_same}
 use Rattle.tva_trace.proofs.RecordsLeft.{left_of, left-none, left-read}
 
 -- what records say of which the first has that number
 abbrev pub rows_left : Bool → Config → ℕ → ℕ → List ℕ → List (List (List ℕ)) → Result (List SaidRow) TraceFault
 rows_left first config number last filed records = cond first (rows_under config records) (rows_from config number last filed records)
-
--- the time of the last row, or that before all
-abbrev pub ends_at : ℕ → List Row → ℕ
-ends_at last [] = last
-ends_at last (row ∷ rows) = ends_at row.time.0 rows
 
 -- a text was read as far as a reader stands: its rows are those that were pushed and those that are left; of those
 -- that were pushed as many begin a transfer at each node
@@ -35,16 +28,10 @@ pub record IsReadTo (config : Config) (text : List ℕ) (reader : Reader (Bor (L
   pub filed : List ℕ
   pub rest : rows_of config text ≡ behind said (rows_left (number == 1) config number last filed (left_of default_config reader.state unread))
   pub counted : (1 ≤ number) × (number ≤ 1000002)
-  pub few : length rows ≤ number - 2
   pub flexible : reader.flexible ≡ true
   pub from_zero : number ≡ 1 → last ≡ 0
   pub from_none : number ≡ 1 → filed ≡ []
   pub counts : files ≡ times filed
-  pub told : (node : ℕ) → files_at node rows ≡ times filed node
-  pub room : (node : ℕ) → times filed node ≤ 65536
-  pub each : All (IsRow config) rows
-  pub order : NeverFall 0 rows
-  pub ends : ends_at 0 rows ≡ last
 
 -- what the first record says, where the test is whether it is the header
 abbrev if_header : Bool → Ruled (Option SaidRow)
@@ -132,16 +119,10 @@ read-start config text reader files none t r c s st flexible = record {
   filed = [];
   rest = rw st (sym (behind-none (rows_of config text)));
   counted = (omega arith, omega arith);
-  few = omega arith;
   flexible = flexible;
   from_zero = λ _. refl;
   from_none = λ _. refl;
   counts = none;
-  told = λ node. refl;
-  room = λ node. omega arith;
-  each = λ k d below. absurd (omega (arith, below));
-  order = tt;
-  ends = refl;
 }
 
 -- the record that is read is the first that was left
@@ -178,62 +159,15 @@ read-header config text a b number last files more rows fields d r ready few e c
       rest = m.2 ∙ ap (behind d.said) (header_by (number == 1) config number last d.filed fields records (λ one. (eqb-true number 1 one, d.from_zero (eqb-true number 1 one), d.from_none (eqb-true number 1 one))) (said_at config number last files d.filed fields (Ok None) d.counts e)
           ∙ sym (ap (λ first. rows_left first config (number + 1) last d.filed records) (not_first number d.counted.0)));
       counted = (omega arith, omega arith);
-      few = omega (arith, d.few);
       flexible = same ∙ d.flexible;
       from_zero = λ one. absurd (omega (arith, d.counted.0));
       from_none = λ one. absurd (omega (arith, d.counted.0));
       counts = counts_same files more d.filed d.counts count;
-      told = d.told;
-      room = d.room;
-      each = d.each;
-      order = d.order;
-      ends = d.ends;
     }
 
--- one row more
-NeverFall-push : (last : ℕ) (rows : List Row) (row : Row) → NeverFall last rows → ends_at last rows ≤ row.time.0 → NeverFall last (rows ++ row ∷ [])
-NeverFall-push last [] row h i = (i, tt)
-NeverFall-push last (r ∷ rs) row h i = (h.0, NeverFall-push r.time.0 rs row h.1 i)
-
-ends_at-push : (last : ℕ) (rows : List Row) (row : Row) → ends_at last (rows ++ row ∷ []) ≡ row.time.0
-ends_at-push last [] row = refl
-ends_at-push last (r ∷ rs) row = ends_at-push r.time.0 rs row
-
--- what is said within the limits is a row within them
-pub carried-fits : (shim : SaidShim) (c : Carried) → IsSaidShim shim → CarriedBy shim c → IsWithinWidths c
-carried-fits (Bytes bytes) carried.Nothing h m = tt
-carried-fits (Bytes bytes) (carried.Shim shim) h m = m.0
-carried-fits (Bytes bytes) (carried.Malformed count) h m = omega (arith, m.2)
-carried-fits (Built shim) c h m = let P : Carried → Type 0 = λ x. IsWithinWidths x in subst P (sym m) h
-
-what-fits : (b r : Bool) (said : SaidWhat) (w : RowWhat) → IsSaidWhat b r said → MeansWhat said w → IsRowWhat b w
-what-fits b r (say.Send dst payload) w h m = let P : RowWhat → Type 0 = λ x. IsRowWhat b x in subst P (sym m) h
-what-fits b r (say.File dst size segment) w h m = let P : RowWhat → Type 0 = λ x. IsRowWhat b x in subst P (sym m) (h.0, h.2)
-what-fits b r (say.Tick dst) w h m = let P : RowWhat → Type 0 = λ x. IsRowWhat b x in subst P (sym m) h
-what-fits b r (say.Inject flow payload shim) w h m = let P : RowWhat → Type 0 = λ x. IsRowWhat b x in subst P (sym m.2) (h.0, carried-fits shim m.0 h.1 m.1)
-
-row-fits : (config : Config) (last : ℕ) (files : ℕ → ℕ) (said : SaidRow) (row : Row) → IsSaid config last files said → Means said row → IsRow config row
-row-fits config last files said row h m = record {
-  time = rw (m.0) h.time;
-  node = rw (m.1) h.node;
-  what = rw (m.1) (what-fits (is_host config.nodes said.node) (has_room files said.node) said.what row.what h.what m.2);
-}
-
--- a record that says a row isn't the first
-not_the_first : (first : Bool) (config : Config) (number last : ℕ) (files : ℕ → ℕ) (fields : List (List ℕ)) (said : SaidRow) → said_by first config number last files fields ≡ Ok (Some said) → first ≡ false
-not_the_first true config number last files fields said e = absurd (row_first (is_header fields) said e)
-not_the_first false config number last files fields said e = refl
-
-behind_header : (config : Config) (number last : ℕ) (files : ℕ → ℕ) (fields : List (List ℕ)) (said : SaidRow) → 1 ≤ number → said_by (number == 1) config number last files fields ≡ Ok (Some said) → 2 ≤ number
-behind_header config number last files fields said some e =
-    let other : (number == 1) ≡ false = not_the_first (number == 1) config number last files fields said e in
-    elim (eqb_tells number 1) [ inl t ↦ absurd (cc (t.0, other)) | inr f ↦ omega (arith, f.1) ]
-
 -- a row
-pub read-row : (config : Config) (text : List ℕ) (a b : Source) (number last : ℕ) (files more : ℕ → ℕ) (rows : List Row) (fields : List (List ℕ)) (said : SaidRow) (row : Row) → IsReadTo config text a number last files rows → ReadRecord told a b true fields → Ready b → number ≤ 1000001 → said_by (number == 1) config number last files fields ≡ Ok (Some said) → IsSaid config last files said → Means said row → Counts files more (filed_by said.node said.what) → b.flexible ≡ a.flexible → IsReadTo config text b (number + 1) said.time.0 more (rows ++ row ∷ [])
-read-row config text a b number last files more rows fields said row d r ready few e valid means count same =
-    let later : 2 ≤ number = behind_header config number last files fields said d.counted.0 e in
-    let finds = subst (λ (f : ℕ → ℕ). FindsRoom f said.node said.what) d.counts (finds_room (is_host config.nodes said.node) files said.node said.what valid.what) in
+pub read-row : (config : Config) (text : List ℕ) (a b : Source) (number last : ℕ) (files more : ℕ → ℕ) (rows : List Row) (fields : List (List ℕ)) (said : SaidRow) (row : Row) → IsReadTo config text a number last files rows → ReadRecord told a b true fields → Ready b → number ≤ 1000001 → said_by (number == 1) config number last files fields ≡ Ok (Some said) → Means said row → Counts files more (filed_by said.node said.what) → b.flexible ≡ a.flexible → IsReadTo config text b (number + 1) said.time.0 more (rows ++ row ∷ [])
+read-row config text a b number last files more rows fields said row d r ready few e means count same =
     let m = rest-read config text a b number last files rows fields d r in
     let records = left_of default_config b.state m.0 in
     record {
@@ -249,16 +183,10 @@ read-row config text a b number last files more rows fields said row d r ready f
           ∙ sym (ap (λ first. behind (said ∷ []) (rows_left first config (number + 1) said.time.0 (d.filed ++ filed_by said.node said.what) records)) (not_first number d.counted.0)))
           ∙ behind-behind d.said (said ∷ []) (rows_left (number + 1 == 1) config (number + 1) said.time.0 (d.filed ++ filed_by said.node said.what) records);
       counted = (omega arith, omega arith);
-      few = rw (length-append rows (row ∷ [])) (omega (arith, d.few, later));
       flexible = same ∙ d.flexible;
       from_zero = λ one. absurd (omega (arith, d.counted.0));
       from_none = λ one. absurd (omega (arith, d.counted.0));
       counts = counts_more files more d.filed (filed_by said.node said.what) d.counts count;
-      told = λ node. files_more node rows d.filed said row (d.told node) means;
-      room = λ node. room_left d.filed said.node node said.what finds (d.room node);
-      each = All-push (IsRow config) rows row d.each (row-fits config last files said row valid means);
-      order = NeverFall-push 0 rows row d.order (rw (d.ends, means.0) valid.later);
-      ends = ends_at-push 0 rows row ∙ ap (λ t. t.0) means.0;
     }
 
 -- no record is left
@@ -288,20 +216,11 @@ read-whole config text a b number last files rows fields d r more =
     (d.said, rest-none config text a b number last files rows fields d r ∙ all_rows (number == 1) config number last d.filed d.said (not_one number more), d.means)
 
 -- what a record says is put behind the rows
-pub read-on : (said : Option SaidRow) (config : Config) (text : List ℕ) (a b : Source) (number last time : ℕ) (files more : ℕ → ℕ) (rows new : List Row) (fields : List (List ℕ)) → IsReadTo config text a number last files rows → ReadRecord told a b true fields → Ready b → number ≤ 1000001 → said_by (number == 1) config number last files fields ≡ Ok said → IfSome said (IsSaid config last files) → IsPut rows new last time said → Counts files more (filed_in said) → b.flexible ≡ a.flexible → IsReadTo config text b (number + 1) time more new
-read-on None config text a b number last time files more rows new fields d r ready few e valid put count same =
+pub read-on : (said : Option SaidRow) (config : Config) (text : List ℕ) (a b : Source) (number last time : ℕ) (files more : ℕ → ℕ) (rows new : List Row) (fields : List (List ℕ)) → IsReadTo config text a number last files rows → ReadRecord told a b true fields → Ready b → number ≤ 1000001 → said_by (number == 1) config number last files fields ≡ Ok said → IsPut rows new last time said → Counts files more (filed_in said) → b.flexible ≡ a.flexible → IsReadTo config text b (number + 1) time more new
+read-on None config text a b number last time files more rows new fields d r ready few e put count same =
     rw (put.0, put.1) (read-header config text a b number last files more rows fields d r ready few e count same)
-read-on (Some said) config text a b number last time files more rows new fields d r ready few e valid put count same =
-    rw (put.2, put.3) (read-row config text a b number last files more rows fields said put.0 d r ready few e valid put.1 count same)
-
--- the rows that were read are within the limits
-pub read-valid : (config : Config) (text : List ℕ) (a : Source) (number last : ℕ) (files : ℕ → ℕ) (rows : List Row) → IsReadTo config text a number last files rows → AreTraceRows config rows
-read-valid config text a number last files rows d = record {
-  few = omega (arith, d.few, d.counted.1);
-  each = d.each;
-  order = d.order;
-  files = λ node. omega (arith, d.told node, d.room node);
-}
+read-on (Some said) config text a b number last time files more rows new fields d r ready few e put count same =
+    rw (put.2, put.3) (read-row config text a b number last files more rows fields said put.0 d r ready few e put.1 count same)
 
 -- an error of a reader that takes any number of fields is want of memory, or of the bytes below it
 pub read-short : (config : Config) (text : List ℕ) (a b : Source) (number last : ℕ) (files : ℕ → ℕ) (rows : List Row) (why : ErrorKind) → IsReadTo config text a number last files rows → ExplainsRead told a b false why → IsShortage why

@@ -6,5 +6,4 @@ pub mod Words
 pub mod Packed
 pub mod Shortage
 pub mod Files
-pub mod Valid
 pub mod Left

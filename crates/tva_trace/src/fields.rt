@@ -3,7 +3,6 @@ ghost use Rattle.std.specs.Prelude.{◌≡◌, IfSome};
 ghost use Rattle.std.specs.Str.{bytes_eq};
 ghost use Rattle.csv.specs.Records.{fields_of};
 ghost use Rattle.tva_trace.specs.Rows.{allowed, field, is_empty, is_header, kind_at, row_kind};
-ghost use Rattle.tva_trace.specs.Valid.{IsAllowed};
 
 use crate::rows::RowKind;
 use csv::ByteRecord;
@@ -78,8 +77,7 @@ pub fn kind_of(word: &[u8]) -> Option<RowKind>
 /// Whether a row of a kind may stand at a node, which is a host or not, and has room for one transfer
 /// more or not.
 pub fn allowed(at_host: bool, room: bool, kind: RowKind) -> Option<RowKind>
-    ensures kind { result ≡ allowed at_host room kind }
-    ensures valid { IfSome result (IsAllowed at_host room) }
+    ensures { result ≡ allowed at_host room kind }
 {
     match kind {
         RowKind::Send | RowKind::Tick if !at_host => None,

@@ -9,7 +9,6 @@ ghost use Rattle.tva_shim.specs.Shims.{IsShown, IsKind};
 ghost use Rattle.tva_trace.specs.declared.said.SaidShim.TheVariants as says;
 ghost use Rattle.tva_trace.specs.Items.{caps_of_items, hex_number_of, item_of, minted_of, plain_shim, raw_of, rights_of, row_shim, shown_of};
 ghost use Rattle.tva_plan.specs.Numbers.{Numbers};
-ghost use Rattle.tva_trace.specs.Valid.{IsSaidShim};
 
 use crate::names::master_at;
 use crate::rows::RowKind;
@@ -211,8 +210,7 @@ pub fn shim_of(
     text: &[u8],
 ) -> Option<SaidShim>
     requires { Numbers plans.now numbers.now }
-    ensures value { result ≡ row_shim plans.now kind flow text.now }
-    ensures valid { IfSome result IsSaidShim }
+    ensures { result ≡ row_shim plans.now kind flow text.now }
 {
     match kind {
         RowKind::Send | RowKind::File | RowKind::Tick => None,
@@ -243,8 +241,7 @@ fn version_of(shown: &Shown) -> u8
 fn plain_shim(version: u8, kind: Kind) -> SaidShim
     requires version { IsVersion version }
     requires kind { IsKind version kind }
-    ensures shim { result ≡ says.Built (plain_shim version kind) }
-    ensures valid { IsSaidShim result }
+    ensures { result ≡ says.Built (plain_shim version kind) }
 {
     SaidShim::Built(Shim::new(version, false, 6, kind, ReturnInfo::Nothing))
 }

@@ -1,13 +1,11 @@
 // What a record says, or the first rule that it breaks.
-ghost use Rattle.std.specs.Prelude.{◌≡◌, ◌<◌, ◌≤◌, Bool, true, IfOk, IfSome, OnOk, length};
+ghost use Rattle.std.specs.Prelude.{◌≡◌, ◌<◌, ◌≤◌, IfSome, OnOk, length};
 ghost use Rattle.csv.specs.Records.{fields_of};
 ghost use Rattle.tva_plan.specs.Numbers.{Numbers};
 ghost use Rattle.tva_base.specs.Decimal.{decimal_of};
 ghost use Rattle.tva_trace.specs.Files.{counted};
-ghost use Rattle.tva_trace.specs.Rows.{filing_of, has_room, hold, injection_of, kind_at, positive, row_of, sending_of, ticking_of, what_of};
-ghost use Rattle.tva_plan.specs.Names.{is_host};
+ghost use Rattle.tva_trace.specs.Rows.{filing_of, hold, injection_of, kind_at, positive, row_of, sending_of, ticking_of, what_of};
 ghost use Rattle.tva_trace.specs.Left.{left_in};
-ghost use Rattle.tva_trace.specs.Valid.{IsAllowed, IsSaid, IsSaidWhat};
 
 use crate::fields::{allowed, field, is_empty, kind_of};
 use crate::files::{FileCounts, has_room};
@@ -38,8 +36,7 @@ fn hold(rule: TraceRule, test: bool) -> Result<(), TraceRule>
 #[tactic(auto, unfolding(crate::specs::Rows::kind_at))]
 fn kind_at(plans: &[NodePlan], files: &FileCounts, node: u16, word: &[u8]) -> Option<RowKind>
     requires { node < length plans.now }
-    ensures kind { result ≡ kind_at plans.now (counted files.now) node word.now }
-    ensures valid { IfSome result (IsAllowed (is_host plans.now node) (has_room (counted files.now) node)) }
+    ensures { result ≡ kind_at plans.now (counted files.now) node word.now }
 {
     let kind = kind_of(word)?;
     // no other row asks how many files there are
@@ -53,8 +50,7 @@ fn kind_at(plans: &[NodePlan], files: &FileCounts, node: u16, word: &[u8]) -> Op
 /// What a row that sends says.
 #[tactic(auto, unfolding(crate::specs::Rows::sending_of))]
 fn sending_of(row: &ByteRecord) -> Result<SaidWhat, TraceRule>
-    ensures said { result ≡ sending_of (fields_of row.now) }
-    ensures valid { IfOk result (λ said. (b r : Bool) → b ≡ true → IsSaidWhat b r said) }
+    ensures { result ≡ sending_of (fields_of row.now) }
 {
     hold(TraceRule::Src, is_empty(field(row, 3)))?;
     let dst = address(field(row, 4)).ok_or(TraceRule::Dst)?;
@@ -69,7 +65,6 @@ fn sending_of(row: &ByteRecord) -> Result<SaidWhat, TraceRule>
 /// A number that isn't 0, and is at most that one.
 fn positive(text: &[u8], most: u64) -> Option<u64>
     ensures value { result ≡ positive (decimal_of text.now most) }
-    ensures some { IfSome result (λ n. 1 ≤ n) }
     ensures within { IfSome result (λ n. n ≤ most) }
 {
     let number = decimal(text, most)?;
@@ -79,8 +74,7 @@ fn positive(text: &[u8], most: u64) -> Option<u64>
 /// What a row that begins a transfer says.
 #[tactic(auto, unfolding(crate::specs::Rows::filing_of))]
 fn filing_of(row: &ByteRecord) -> Result<SaidWhat, TraceRule>
-    ensures said { result ≡ filing_of (fields_of row.now) }
-    ensures valid { IfOk result (λ said. (b r : Bool) → b ≡ true → r ≡ true → IsSaidWhat b r said) }
+    ensures { result ≡ filing_of (fields_of row.now) }
 {
     hold(TraceRule::Src, is_empty(field(row, 3)))?;
     let dst = address(field(row, 4)).ok_or(TraceRule::Dst)?;
@@ -96,8 +90,7 @@ fn filing_of(row: &ByteRecord) -> Result<SaidWhat, TraceRule>
 /// What a tick says.
 #[tactic(auto, unfolding(crate::specs::Rows::ticking_of))]
 fn ticking_of(row: &ByteRecord) -> Result<SaidWhat, TraceRule>
-    ensures said { result ≡ ticking_of (fields_of row.now) }
-    ensures valid { IfOk result (λ said. (b r : Bool) → b ≡ true → IsSaidWhat b r said) }
+    ensures { result ≡ ticking_of (fields_of row.now) }
 {
     hold(TraceRule::Src, is_empty(field(row, 3)))?;
     let dst = address(field(row, 4)).ok_or(TraceRule::Dst)?;
@@ -117,8 +110,7 @@ fn injection_into(
     said: &mut SaidWhat,
 ) -> Result<(), TraceRule>
     requires { Numbers plans.now numbers.now }
-    ensures said { left_in said.new result ≡ injection_of plans.now kind (fields_of row.now) }
-    ensures valid { IfOk result (λ none. (b r : Bool) → IsSaidWhat b r said.new) }
+    ensures { left_in said.new result ≡ injection_of plans.now kind (fields_of row.now) }
 {
     let src = address(field(row, 3)).ok_or(TraceRule::Src)?;
     let dst = address(field(row, 4)).ok_or(TraceRule::Dst)?;
@@ -146,8 +138,7 @@ fn what_into(
     said: &mut SaidWhat,
 ) -> Result<(), TraceRule>
     requires { Numbers plans.now numbers.now }
-    ensures said { left_in said.new result ≡ what_of plans.now kind (fields_of row.now) }
-    ensures valid { IfOk result (λ none. (b r : Bool) → IsAllowed b r kind → IsSaidWhat b r said.new) }
+    ensures { left_in said.new result ≡ what_of plans.now kind (fields_of row.now) }
 {
     match kind {
         RowKind::Send => *said = sending_of(row)?,
@@ -174,7 +165,6 @@ pub fn row_into(
     requires { Numbers config.now.nodes numbers.now }
     ensures said { left_in said.new result ≡ row_of config.now number last (counted files.now) (fields_of row.now) }
     ensures few { OnOk result (number ≤ 1000001) }
-    ensures valid { OnOk result (IsSaid config.now last (counted files.now) said.new) }
 {
     let plans = config.nodes.as_slice();
     hold(TraceRule::Rows, number <= 1_000_001)?;

@@ -5,7 +5,7 @@ ghost use Rattle.tva_rows.specs.declared.rows.Row.{Row};
 ghost use Rattle.tva_trace.specs.declared.said.SaidRow.{SaidRow};
 ghost use Rattle.tva_trace.specs.Rows.{rows_of};
 ghost use Rattle.tva_trace.specs.Meaning.{AreRows};
-ghost use Rattle.tva_rows.specs.Valid.{files_at};
+ghost use Rattle.tva_rows.specs.Valid.{AreTraceRows, files_at};
 
 /// A text has at most one list of rows under a configuration: two lists of its rows are the same.
 pub fn texts_have_one_meaning()
@@ -17,6 +17,12 @@ pub fn texts_have_one_meaning()
 pub fn rows_are_there()
     ensures { (config : Config) (text : List ℕ) (said : List SaidRow) → rows_of config text ≡ Ok said
         → (rows : List Row) × AreRows config text rows }
+{}
+
+/// The rows of a text are such as a network can be given: what holds of all of those holds of these.
+pub fn rows_are_valid()
+    ensures { (config : Config) (text : List ℕ) (rows : List Row) → AreRows config text rows
+        → AreTraceRows config rows }
 {}
 
 /// In the rows of a text each node begins at most 65,536 transfers, so that each has a number of 16 bits.

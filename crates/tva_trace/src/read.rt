@@ -11,7 +11,6 @@ ghost use Rattle.tva_trace.specs.Left.{row_where, told_by};
 ghost use Rattle.tva_trace.specs.Rows.{said_by};
 ghost use Rattle.tva_trace.specs.Shortage.{IsShortage};
 ghost use Rattle.tva_rows.specs.Valid.{AreTraceRows};
-ghost use Rattle.tva_trace.specs.Valid.{IsSaid};
 
 use crate::fields::is_header;
 use crate::files::{FileCounts, count_file};
@@ -69,8 +68,7 @@ fn read_rows(
     numbers: &HashMap<&[u8], u16>,
 ) -> Result<PackedRows, TraceError>
     requires { Numbers config.now.nodes numbers.now }
-    ensures answer { AnswersPacked config.now text.now result }
-    ensures valid { IfOk result (λ rows. AreTraceRows config.now rows) }
+    ensures { AnswersPacked config.now text.now result }
 {
     let mut rows = PackedRows::new(alloc);
     let room = room_for_rows(text);
@@ -183,7 +181,6 @@ fn said_into(
     requires { Numbers config.now.nodes numbers.now }
     ensures said { told_by said.new result ≡ said_by (number == 1) config.now number last (counted files.now) (fields_of row.now) }
     ensures few { OnOk result (number ≤ 1000001) }
-    ensures valid { IfOk result (λ is_row. IfSome (row_where is_row said.new) (IsSaid config.now last (counted files.now))) }
 {
     if number != 1 {
         row_into(config, numbers, secrets, files, number, last, row, said)?;

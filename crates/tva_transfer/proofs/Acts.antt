@@ -1,5 +1,5 @@
 -- Acts and steps in their order.
-use Rattle.tva_transfer.proofs.Common.{◌≡◌, ℕ, true, false, cond, eqb, List, [], ◌∷◌, ◌++◌, Some, None, refl, sym, ap, subst, ◌∙◌, ⊎_elim, cases_Bool, eqb-true, eq-eqb, append-nil, filter_map-append, Act, Step, acts_at}
+use Rattle.tva_transfer.proofs.Common.{◌≡◌, ℕ, true, false, cond, eqb, List, [], ◌∷◌, ◌++◌, Some, None, refl, sym, ap, subst, ◌∙◌, ⊎_elim, cases_Bool, eqb-true, eq-eqb, append-nil, filter_map-append, Act, Step, acts_at, arith, rules, nat_tests, common_steps}
 use Rattle.std.proofs.Math.Seq.{append_snoc}
 
 -- what holds of no element, and of each list with one more where it holds of the list, holds of all lists
@@ -20,9 +20,7 @@ pub record IsStep (steps : List Step) (number : ℕ) (before : List Act) (act : 
   pub after_is : acts_at number later ≡ after
 
 pub acts_at-step : (number : ℕ) (earlier later : List Step) (act : Act) → acts_at number (earlier ++ record { at = number; act = act } ∷ later) ≡ acts_at number earlier ++ act ∷ acts_at number later
-acts_at-step number earlier later act =
-    filter_map-append (λ (s : Step). cond (eqb s.at number) (Some s.act) None) earlier (record { at = number; act = act } ∷ later)
-    ∙ ap (λ acts. acts_at number earlier ++ acts) (rw (eq-eqb number number refl) refl)
+acts_at-step number earlier later act = grind (arith, filter_map-append, eq-eqb)
 
 skipped : (s : Step) (steps : List Step) (number : ℕ) → eqb s.at number ≡ false → acts_at number (s ∷ steps) ≡ acts_at number steps
 skipped s steps number other = rw other refl

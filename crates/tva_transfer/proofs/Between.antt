@@ -1,5 +1,5 @@
 -- What passes between couriers.
-use Rattle.tva_transfer.proofs.Common.{◌≡◌, ◌≢◌, ℕ, ◌+◌, ◌≤◌, true, cond, List, [], ◌∷◌, ◌++◌, Some, length, sym, ap, subst, ◌∙◌, ⊎_elim, append_assoc, arith, Contains, slice_get, IsSomeAnd, cases_Bool, eqb-true, slice_get_within, Address, Flow, Upper, Nothing, Data, Ack, DataLine, PacketData, Transfer, Files, Act, Came, after_act, files_of, heard, is_addressed_to, next_of, AreFrom, IsSent, IsWithin, Step, acts_at, files_at, ranges_of, sent_by}
+use Rattle.tva_transfer.proofs.Common.{◌≡◌, ◌≢◌, ℕ, ◌+◌, ◌≤◌, true, cond, List, [], ◌∷◌, ◌++◌, Some, length, sym, ap, subst, ◌∙◌, ⊎_elim, append_assoc, arith, Contains, slice_get, IsSomeAnd, cases_Bool, eqb-true, slice_get_within, Address, Flow, Upper, Nothing, Data, Ack, DataLine, PacketData, Transfer, Files, Act, Came, after_act, files_of, heard, is_addressed_to, next_of, AreFrom, IsSent, IsWithin, Step, acts_at, files_at, ranges_of, sent_by, rules, nat_tests, common_steps}
 use Rattle.tva_transfer.proofs.Acts.{acts_at-step, step_at}
 use Rattle.tva_transfer.proofs.History.{HasCome, next_of-rises, ranges_came}
 use Rattle.tva_transfer.proofs.Sent.{IsKept, IsOf, address_is, acked_came, sent_ack, sent_data, stays}
@@ -7,10 +7,7 @@ use Rattle.tva_transfer.proofs.Standing.{files_of-push}
 
 -- what is heard is of a packet for the host
 heard_is : (home : Address) (p : PacketData) (above : Upper) → above ≢ Nothing → heard home p ≡ above → (is_addressed_to home p ≡ true) × (p.upper ≡ above)
-heard_is home p above some e = ⊎_elim
-    (λ yes. (yes, subst (λ b. cond b p.upper Nothing ≡ above) yes e))
-    (λ no. absurd (some (sym (subst (λ b. cond b p.upper Nothing ≡ above) no e))))
-    (cases_Bool (is_addressed_to home p))
+heard_is home p above some e = grind (arith, cases_Bool)
 
 -- a courier sent with a flow to the host what came in at it
 pub record IsSentTo (home : ℕ → Address) (steps : List Step) (sender receiver : ℕ) (above : Upper) : Type 0 where
@@ -23,15 +20,7 @@ pub record IsSentTo (home : ℕ → Address) (steps : List Step) (sender receive
   pub sent : sent_by (home sender) (files_at home sender earlier) act ≡ Some (flow, above)
 
 sent_before : (home : ℕ → Address) (steps : List Step) (receiver sender : ℕ) (above : Upper) (p : PacketData) (before after : List Step) → steps ≡ before ++ record { at = receiver; act = Came p } ∷ after → p.flow.dst ≡ home receiver → p.upper ≡ above → IsSent home before sender p.flow p.upper → IsSentTo home steps sender receiver above
-sent_before home steps receiver sender above p before after is dst same sent = record {
-  earlier = sent.0;
-  later = sent.1 ++ record { at = receiver; act = Came p } ∷ after;
-  act = sent.2;
-  flow = p.flow;
-  is = is ∙ ap (λ xs. xs ++ record { at = receiver; act = Came p } ∷ after) sent.3 ∙ append_assoc sent.0 (record { at = sender; act = sent.2 } ∷ sent.1) (record { at = receiver; act = Came p } ∷ after);
-  to = dst;
-  sent = sent.4 ∙ ap (λ u. Some (p.flow, u)) same;
-}
+sent_before home steps receiver sender above p before after is dst same sent = grind (arith, append_assoc)
 
 pub came_from : (home : ℕ → Address) (steps : List Step) (receiver sender : ℕ) (above : Upper) → above ≢ Nothing → AreFrom home steps → HasCome (home receiver) (acts_at receiver steps) (home sender) above → IsSentTo home steps sender receiver above
 came_from home steps receiver sender above some fromall h =
@@ -44,9 +33,7 @@ came_from home steps receiver sender above some fromall h =
 -- ## after a step
 
 files_at-step : (home : ℕ → Address) (number : ℕ) (steps earlier later : List Step) (act : Act) → steps ≡ earlier ++ record { at = number; act = act } ∷ later → files_at home number steps ≡ files_of (home number) ((acts_at number earlier ++ act ∷ []) ++ acts_at number later)
-files_at-step home number steps earlier later act is =
-    ap (files_at home number) is
-    ∙ ap (files_of (home number)) (acts_at-step number earlier later act ∙ sym (append_assoc (acts_at number earlier) (act ∷ []) (acts_at number later)))
+files_at-step home number steps earlier later act is = grind (arith, acts_at-step, append_assoc)
 
 pub stays_at : (home : ℕ → Address) (number : ℕ) (steps earlier later : List Step) (act : Act) (place : ℕ) (t : Transfer) → steps ≡ earlier ++ record { at = number; act = act } ∷ later → slice_get (after_act (home number) (files_at home number earlier) act).transfers place ≡ Some t → IsKept (files_at home number steps).transfers place t
 stays_at home number steps earlier later act place t is at =
@@ -63,11 +50,7 @@ rises_at home number steps earlier later act source transfer is =
 -- ## the laws
 
 within : (dst to : Address) (ts : List Transfer) (transfer : ℕ) (r : DataLine) (d : IsOf ts to transfer r.first r.bytes) (all : List Transfer) → to ≡ dst → IsKept all d.place d.transfer → length all ≤ 65536 → IsWithin dst r (slice_get all transfer)
-within dst to ts transfer r d all same k few =
-    let inside = slice_get_within all d.place k.now k.at in
-    let here : d.place ≡ transfer = omega (arith, inside, few, d.numbered) in
-    subst (λ o. IsSomeAnd o (λ t. (t.dst ≡ dst) × (r.first + r.bytes ≤ t.size))) (sym (ap (slice_get all) (sym here) ∙ k.at))
-    (k.dst ∙ d.to ∙ same, omega (arith, d.fits, k.size))
+within dst to ts transfer r d all same k few = grind (arith, slice_get_within, slice_get)
 
 sent_within : (home : ℕ → Address) (steps : List Step) (receiver sender transfer : ℕ) (r : DataLine) → length (files_at home sender steps).transfers ≤ 65536 → IsSentTo home steps sender receiver (Data transfer r.first r.bytes) → IsWithin (home receiver) r (slice_get (files_at home sender steps).transfers transfer)
 sent_within home steps receiver sender transfer r few s =
@@ -76,24 +59,13 @@ sent_within home steps receiver sender transfer r few s =
     (stays_at home sender steps s.earlier s.later s.act d.place d.transfer s.is d.at) few
 
 sent_delivered : (home : ℕ → Address) (steps : List Step) (receiver sender transfer next : ℕ) → IsSentTo home steps receiver sender (Ack transfer next) → next ≤ next_of (files_at home receiver steps) (home sender) transfer
-sent_delivered home steps receiver sender transfer next s =
-    let d = sent_ack (home receiver) (files_at home receiver s.earlier) s.act s.flow transfer next s.sent ∙ ap (λ (a : Address). next_of (after_act (home receiver) (files_at home receiver s.earlier) s.act) a transfer) s.to in
-    let rise = rises_at home receiver steps s.earlier s.later s.act (home sender) transfer s.is in
-    omega (arith, d, rise)
+sent_delivered home steps receiver sender transfer next s = grind (arith, sent_ack, rises_at)
 
 pub are_within : (home : ℕ → Address) (steps : List Step) (receiver sender transfer : ℕ) (r : DataLine) → AreFrom home steps → length (files_at home sender steps).transfers ≤ 65536 → Contains (ranges_of (files_at home receiver steps) (home sender) transfer) r → IsWithin (home receiver) r (slice_get (files_at home sender steps).transfers transfer)
-are_within home steps receiver sender transfer r fromall few c =
-    sent_within home steps receiver sender transfer r few
-    (came_from home steps receiver sender (Data transfer r.first r.bytes) (λ e. absurd (cc)) fromall
-    (ranges_came (home receiver) (acts_at receiver steps) (home sender) transfer r c))
+are_within home steps receiver sender transfer r fromall few c = grind (arith, sent_within, came_from, ranges_came)
 
 pub is_delivered : (home : ℕ → Address) (steps : List Step) (receiver sender transfer : ℕ) (t : Transfer) → AreFrom home steps → slice_get (files_at home sender steps).transfers transfer ≡ Some t → t.dst ≡ home receiver → t.acked ≤ next_of (files_at home receiver steps) (home sender) transfer
-is_delivered home steps receiver sender transfer t fromall at to = ⊎_elim
-    (λ none. omega (arith, none))
-    (λ come. sent_delivered home steps receiver sender transfer t.acked
-    (came_from home steps sender receiver (Ack transfer t.acked) (λ e. absurd (cc)) fromall
-    (subst (λ (a : Address). HasCome (home sender) (acts_at sender steps) a (Ack transfer t.acked)) to come)))
-    (acked_came (home sender) (acts_at sender steps) transfer t at)
+is_delivered home steps receiver sender transfer t fromall at to = grind (arith, sent_delivered, came_from, acked_came)
 
 -- what holds at each place holds before
 pub prefix : (home : ℕ → Address) (steps later : List Step) → AreFrom home (steps ++ later) → AreFrom home steps

@@ -23,3 +23,5 @@ unfoldable pub use Rattle.tva_transfer.specs.Files.{segment_due, after_upper, ra
 pub use Rattle.tva_transfer.specs.Sound.{has_key, IsSized, IsSound, is_due_at}
 pub use Rattle.tva_transfer.specs.Stands.{next_kept, CourierData, Knows, StandsFor, known, call_with, courier_data}
 pub use Rattle.tva_transfer.specs.declared.transfers.Transfer.{Transfer}
+pub use Rattle.std.proofs.lemmas.Grind.{common_steps}
+pub use Rattle.std.proofs.Common.{rules}

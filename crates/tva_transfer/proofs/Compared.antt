@@ -1,10 +1,9 @@
 -- Look-ups by a comparison of keys find what look-ups by a test find. A key is an address with a number.
-use Rattle.tva_transfer.proofs.Common.{◌≡◌, ℕ, ◌||◌, ◌&&◌, Bool, true, false, cond, eqb, ltb, ◌≤◌, List, [], ◌∷◌, Option, Some, Ordering, refl, ap, sym, ◌∙◌, arith, list_any, lookup, unwrap_or, is_eq, is_gt, nat_cmp, ordering_then, eq-eqb, le-ltb, ltb-false, or_parts, nat_tests, Address, next_kept, has_key}
+use Rattle.tva_transfer.proofs.Common.{◌≡◌, ℕ, ◌||◌, ◌&&◌, Bool, true, false, cond, eqb, ltb, ◌≤◌, List, [], ◌∷◌, Option, Some, Ordering, refl, ap, sym, ◌∙◌, arith, list_any, lookup, unwrap_or, is_eq, is_gt, nat_cmp, ordering_then, eq-eqb, le-ltb, ltb-false, or_parts, nat_tests, Address, next_kept, has_key, rules, common_steps}
 use Rattle.std.specs.declared.cmp.Ordering.TheVariants.{Less, Equal, Greater}
 
 list_any_same : {X : Type 0} (p q : X → Bool) → ((x : X) → p x ≡ q x) → (xs : List X) → list_any p xs ≡ list_any q xs
-list_any_same p q e [] = refl
-list_any_same p q e (x ∷ xs) = ap (λ b. b || list_any p xs) (e x) ∙ ap (λ b. q x || b) (list_any_same p q e xs)
+list_any_same p q e xs = grind (arith, list_any)
 
 lookup_same : {K X : Type 0} (p q : K → Bool) → ((k : K) → p k ≡ q k) → (es : List (K × X)) → lookup p es ≡ lookup q es
 lookup_same p q e [] = refl
@@ -53,6 +52,4 @@ pub key_from : (dst : Address) (place : ℕ) → is_gt (key_cmp (dst, 0) (dst, p
 key_from dst place = is_gt-key_cmp (dst, 0) (dst, place) ∙ rw (le-ltb dst.0 dst.0 (omega arith), le-ltb place 0 (omega arith), eq-eqb dst.0 dst.0 refl) refl
 
 pub key_before : (x y : Address × ℕ) → is_gt (key_cmp x y) ≡ false → (x.0.0 ≤ y.0.0) × (x.0.0 ≡ y.0.0 → x.1 ≤ y.1)
-key_before x y e =
-    let parts = or_parts (ltb y.0.0 x.0.0) (eqb x.0.0 y.0.0 && ltb y.1 x.1) (sym (is_gt-key_cmp x y) ∙ e) in
-    (ltb-false y.0.0 x.0.0 parts.0, λ same. ltb-false y.1 x.1 (rw (eq-eqb x.0.0 y.0.0 same) at parts.1))
+key_before x y e = grind (arith, or_parts, is_gt-key_cmp, ltb-false, eq-eqb)

@@ -1,5 +1,5 @@
 -- Which transfers are due, after a transfer begins and after more of one is acknowledged.
-use Rattle.tva_transfer.proofs.Common.{◌≡◌, ℕ, ◌<◌, ◌≤◌, ◌&&◌, Bool, true, false, cond, eqb, ltb, List, [], ◌∷◌, ◌++◌, length, get_or, set, Some, None, refl, sym, ap, ◌∙◌, ⊎_elim, arith, position, position_or_len, slice_get, option_map_or, cases_Bool, and_parts, and_right, eqb-true, lt-ltb, le-ltb, cases_lt, false≢true, nat_tests, position_or_len_is, slice_get_past, slice_get_within, slice_get-get_or, Address, Transfer, Files, begun, is_due, segment_due, segment_of, IsSized, IsSound, has_key, is_due_at}
+use Rattle.tva_transfer.proofs.Common.{◌≡◌, ℕ, ◌<◌, ◌≤◌, ◌&&◌, Bool, true, false, cond, eqb, ltb, List, [], ◌∷◌, ◌++◌, length, get_or, set, Some, None, refl, sym, ap, ◌∙◌, ⊎_elim, arith, position, position_or_len, slice_get, option_map_or, cases_Bool, and_parts, and_right, eqb-true, lt-ltb, le-ltb, cases_lt, false≢true, nat_tests, position_or_len_is, slice_get_past, slice_get_within, slice_get-get_or, Address, Transfer, Files, begun, is_due, segment_due, segment_of, IsSized, IsSound, has_key, is_due_at, rules, common_steps}
 use Rattle.tva_transfer.proofs.Places.{slice_get-push, slice_get-set}
 
 eqb-sym : (a b : ℕ) → eqb a b ≡ eqb b a
@@ -13,65 +13,22 @@ ended b was is has none h = rw (none, h) (elim b as (λ v. cond (v && true) fals
 
 -- a transfer begins
 pub sound_filed : (ts : List Transfer) (old new : List (Address × ℕ)) (dst : Address) (size segment : ℕ) → 1 ≤ size → size ≤ 100000000 → segment ≤ 1500 → IsSound ts old → ((d : Address) (p : ℕ) → has_key new d p ≡ cond (eqb dst.0 d.0 && eqb (length ts) p) true (has_key old d p)) → IsSound (ts ++ begun dst size segment ∷ []) new
-sound_filed ts old new dst size segment some most fits s e = record {
-  sized = λ place t here. let at = slice_get-push ts (begun dst size segment) place in ⊎_elim
-      (λ yes. let same : Some (begun dst size segment) ≡ Some t = sym (rw yes at at) ∙ here in let is : begun dst size segment ≡ t = cc in rw (← is) (most, fits))
-      (λ no. s.sized place t (sym (rw no at at) ∙ here))
-      (cases_Bool (eqb place (length ts)));
-  due = λ d p. e d p ∙ rw (eqb-sym (length ts) p, slice_get-push ts (begun dst size segment) p) (⊎_elim
-      (λ yes. let here = eqb-true p (length ts) yes in
-      let none : has_key old d p ≡ false = s.due d p ∙ rw (slice_get_past ts p (omega arith)) refl in
-      rw (yes, none) (started (eqb dst.0 d.0) (ltb 0 size) (lt-ltb 0 size (omega arith))))
-      (λ no. rw no (rw (and_right (eqb dst.0 d.0) false refl) (s.due d p)))
-      (cases_Bool (eqb p (length ts))));
-}
+sound_filed ts old new dst size segment some most fits s e = grind (arith, slice_get-push, cases_Bool, eqb-sym, eqb-true, slice_get_past, lt-ltb, and_right)
 
 -- a transfer that was to begin doesn't
 pub sound_undone : (ts : List Transfer) (old with new : List (Address × ℕ)) (dst : Address) → IsSound ts old → ((d : Address) (p : ℕ) → has_key with d p ≡ cond (eqb dst.0 d.0 && eqb (length ts) p) true (has_key old d p)) → ((d : Address) (p : ℕ) → has_key new d p ≡ cond (eqb dst.0 d.0 && eqb (length ts) p) false (has_key with d p)) → IsSound ts new
-sound_undone ts old with new dst s e u = record {
-  sized = s.sized;
-  due = λ d p. ⊎_elim
-      (λ yes. let here = eqb-true (length ts) p (and_parts (eqb dst.0 d.0) (eqb (length ts) p) yes).1 in
-      u d p ∙ rw (yes, slice_get_past ts p (omega arith)) refl)
-      (λ no. u d p ∙ rw (no, e d p) (rw no (s.due d p)))
-      (cases_Bool (eqb dst.0 d.0 && eqb (length ts) p));
-}
+sound_undone ts old with new dst s e u = grind (arith, eqb-true, and_parts, slice_get_past, cases_Bool)
 
 -- more of a transfer is acknowledged: all of it, or not
 module _ (ts : List Transfer) (old new : List (Address × ℕ)) (place next : ℕ) (t : Transfer) (here : slice_get ts place ≡ Some t) (s : IsSound ts old) where
   sized : (p : ℕ) (u : Transfer) → slice_get (set ts place (record t { acked = next })) p ≡ Some u → IsSized u
-  sized p u at = let e = slice_get-set ts place (record t { acked = next }) p in ⊎_elim
-      (λ yes. let same = eqb-true p place yes in
-      let now : slice_get ts p ≡ Some t = rw same here in
-      let is : Some (record t { acked = next }) ≡ Some u = sym (rw (yes, now) at e) ∙ at in
-      let is' : record t { acked = next } ≡ u = cc in
-      rw (← is') (s.sized place t here))
-      (λ no. s.sized p u (sym (rw no at e) ∙ at))
-      (cases_Bool (eqb p place))
+  sized p u at = grind (arith, slice_get-set, eqb-true, slice_get, cases_Bool)
 
   pub sound_acked : t.acked < next → next < t.size → IsSound (set ts place (record t { acked = next })) old
-  sound_acked more less = record {
-    sized = sized;
-    due = λ d p. s.due d p ∙ rw (slice_get-set ts place (record t { acked = next }) p) (⊎_elim
-        (λ yes. let same = eqb-true p place yes in
-        let now : slice_get ts p ≡ Some t = rw same here in
-        rw (yes, now) (ap (λ b. eqb t.dst.0 d.0 && b) (lt-ltb t.acked t.size (omega arith) ∙ sym (lt-ltb next t.size less))))
-        (λ no. rw no refl)
-        (cases_Bool (eqb p place)));
-  }
+  sound_acked more less = grind (arith, slice_get-set, eqb-true, slice_get, lt-ltb, cases_Bool)
 
   pub sound_done : t.size ≤ next → ((d : Address) (p : ℕ) → has_key new d p ≡ cond (eqb t.dst.0 d.0 && eqb place p) false (has_key old d p)) → IsSound (set ts place (record t { acked = next })) new
-  sound_done all e = record {
-    sized = sized;
-    due = λ d p. e d p ∙ rw (eqb-sym place p, slice_get-set ts place (record t { acked = next }) p) (⊎_elim
-        (λ yes. let same = eqb-true p place yes in
-        let now : slice_get ts p ≡ Some t = rw same here in
-        let none = le-ltb next t.size all in
-        let before = s.due d p in
-        rw (yes, now) (ended (eqb t.dst.0 d.0) (ltb t.acked t.size) (ltb next t.size) (has_key old d p) none (before ∙ rw now refl)))
-        (λ no. rw no (rw (and_right (eqb t.dst.0 d.0) false refl) (s.due d p)))
-        (cases_Bool (eqb p place)));
-  }
+  sound_done all e = grind (arith, eqb-sym, slice_get-set, eqb-true, slice_get, le-ltb, and_right, cases_Bool)
 
 -- ## the first one that is due
 
@@ -101,7 +58,4 @@ unfolding segment_due
 segment_due-none files dst none = rw (none_at files.transfers dst none) refl
 
 pub due_within : (ts : List Transfer) (dst : Address) (place : ℕ) → is_due_at ts dst place ≡ true → place < length ts
-due_within ts dst place due = ⊎_elim
-    (λ within. within)
-    (λ past. let none : is_due_at ts dst place ≡ false = rw (slice_get_past ts place past) refl in absurd (false≢true (sym none ∙ due)))
-    (cases_lt place (length ts))
+due_within ts dst place due = grind (arith, slice_get_past, cases_lt)

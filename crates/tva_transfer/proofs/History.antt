@@ -1,5 +1,5 @@
 -- What a host knows of files, and which act it came from.
-use Rattle.tva_transfer.proofs.Common.{◌≡◌, ℕ, ◌+◌, ◌≤◌, ◌&&◌, ◌⊎◌, true, false, cond, eqb, List, [], ◌∷◌, ◌++◌, Some, map, refl, sym, ap, subst, inl, inr, ◌∙◌, ⊎_elim, append_assoc, add-zero, zero-add, add_assoc, arith, Contains, filter, sum_by, and_parts, cases_Bool, cond_both, eqb-true, append-nil, map-append, Contains-push_cases, filter-append, sum_by-cons, Address, Upper, Nothing, Data, Ack, DataLine, PacketData, Files, Act, Filed, Ticked, Came, after_act, after_upper, files_of, heard, is_of, next_of, range_of, with_range, Follow, ranges_of}
+use Rattle.tva_transfer.proofs.Common.{◌≡◌, ℕ, ◌+◌, ◌≤◌, ◌&&◌, ◌⊎◌, true, false, cond, eqb, List, [], ◌∷◌, ◌++◌, Some, map, refl, sym, ap, subst, inl, inr, ◌∙◌, ⊎_elim, append_assoc, add-zero, zero-add, add_assoc, arith, Contains, filter, sum_by, and_parts, cases_Bool, cond_both, eqb-true, append-nil, map-append, Contains-push_cases, filter-append, sum_by-cons, Address, Upper, Nothing, Data, Ack, DataLine, PacketData, Files, Act, Filed, Ticked, Came, after_act, after_upper, files_of, heard, is_of, next_of, range_of, with_range, Follow, ranges_of, rules, nat_tests, common_steps}
 use Rattle.tva_transfer.proofs.Acts.{by_last}
 use Rattle.tva_transfer.proofs.Knowing.{behind, next_of-after, next_of-same}
 use Rattle.tva_transfer.proofs.Standing.{files_of-push}
@@ -11,17 +11,11 @@ follow_more from [] r f e = (e ∙ add-zero from, tt)
 follow_more from (x ∷ rs) r f e = (f.0, follow_more (from + x.bytes) rs r f.1 (e ∙ ap (λ n. from + n) (sum_by-cons (λ (y : DataLine). y.bytes) x rs) ∙ sym (add_assoc from x.bytes (sum_by (λ (y : DataLine). y.bytes) rs))))
 
 ranges_of-more : (files : Files) (at : Address) (r : DataLine) (source : Address) (transfer : ℕ) → ranges_of (with_range at (Some r) files) source transfer ≡ ranges_of files source transfer ++ cond (is_of source transfer (at, r)) (r ∷ []) []
-ranges_of-more files at r source transfer =
-    ap (λ xs. map (λ (x : Address × DataLine). x.1) xs) (filter-append (is_of source transfer) files.ranges ((at, r) ∷ []))
-    ∙ map-append (λ (x : Address × DataLine). x.1) (filter (is_of source transfer) files.ranges) (filter (is_of source transfer) ((at, r) ∷ []))
-    ∙ ap (λ xs. ranges_of files source transfer ++ xs) (elim (is_of source transfer (at, r)) as (λ b. map (λ (x : Address × DataLine). x.1) (cond b ((at, r) ∷ []) []) ≡ cond b (r ∷ []) []) [ true ↦ refl | false ↦ refl ])
+ranges_of-more files at r source transfer = grind (arith, filter-append, map-append)
 
 bytes_of : (xs : List (Address × DataLine)) → sum_by (λ (x : DataLine). x.bytes) (map (λ (x : Address × DataLine). x.1) xs) ≡ sum_by (λ (x : Address × DataLine). x.1.bytes) xs
 bytes_of [] = refl
-bytes_of (x ∷ xs) =
-    sum_by-cons (λ (y : DataLine). y.bytes) x.1 (map (λ (y : Address × DataLine). y.1) xs)
-    ∙ ap (λ n. x.1.bytes + n) (bytes_of xs)
-    ∙ sym (sum_by-cons (λ (y : Address × DataLine). y.1.bytes) x xs)
+bytes_of (x ∷ xs) = search (rules, sum_by-cons, bytes_of xs)
 
 follow_data : (files : Files) (at source : Address) (transfer : ℕ) (r : DataLine) → r.first ≡ next_of files at r.transfer → Follow 0 (ranges_of files source transfer) → Follow 0 (ranges_of (with_range at (Some r) files) source transfer)
 follow_data files at source transfer r e f = rw (ranges_of-more files at r source transfer) (⊎_elim
@@ -32,17 +26,10 @@ follow_data files at source transfer r e f = rw (ranges_of-more files at r sourc
 
 follow_upper : (files : Files) (at : Address) (above : Upper) (source : Address) (transfer : ℕ) → Follow 0 (ranges_of files source transfer) → Follow 0 (ranges_of (after_upper files at above) source transfer)
 unfolding after_upper range_of
-follow_upper files at Nothing source transfer f = f
-follow_upper files at (Data number first bytes) source transfer f = ⊎_elim
-    (λ yes. rw yes (follow_data files at source transfer (record { transfer = number; first = first; bytes = bytes }) (eqb-true first (next_of files at number) yes) f))
-    (λ no. rw no f)
-    (cases_Bool (eqb first (next_of files at number)))
-follow_upper files at (Ack number next) source transfer f = f
+follow_upper files at above source transfer f = grind (arith, follow_data, eqb-true, cases_Bool)
 
 follow_act : (home : Address) (files : Files) (a : Act) (source : Address) (transfer : ℕ) → Follow 0 (ranges_of files source transfer) → Follow 0 (ranges_of (after_act home files a) source transfer)
-follow_act home files (Filed dst size segment) source transfer f = f
-follow_act home files (Ticked dst) source transfer f = f
-follow_act home files (Came p) source transfer f = follow_upper files p.flow.src (heard home p) source transfer f
+follow_act home files a source transfer f = grind (arith, follow_upper)
 
 pub ranges_follow : (home : Address) (acts : List Act) (source : Address) (transfer : ℕ) → Follow 0 (ranges_of (files_of home acts) source transfer)
 ranges_follow home acts source transfer = by_last (λ xs. Follow 0 (ranges_of (files_of home xs) source transfer)) tt
@@ -52,18 +39,10 @@ ranges_follow home acts source transfer = by_last (λ xs. Follow 0 (ranges_of (f
 
 next_of-upper : (files : Files) (at : Address) (above : Upper) (source : Address) (transfer : ℕ) → next_of files source transfer ≤ next_of (after_upper files at above) source transfer
 unfolding after_upper
-next_of-upper files at Nothing source transfer = omega arith
-next_of-upper files at (Data number first bytes) source transfer =
-    let n = next_of files source transfer in
-    let P : ℕ → Type 0 = λ m. n ≤ m in
-    subst P (sym (next_of-after files at number first bytes source transfer))
-    (cond_both (eqb at.0 source.0 && eqb number transfer) (behind n first bytes) n P (λ _. cond_both (eqb first n) (n + bytes) n P (λ _. omega arith) (λ _. omega arith)) (λ _. omega arith))
-next_of-upper files at (Ack number next) source transfer = omega arith
+next_of-upper files at above source transfer = grind (arith, next_of-after, cond_both)
 
 next_of-act : (home : Address) (files : Files) (a : Act) (source : Address) (transfer : ℕ) → next_of files source transfer ≤ next_of (after_act home files a) source transfer
-next_of-act home files (Filed dst size segment) source transfer = omega arith
-next_of-act home files (Ticked dst) source transfer = omega arith
-next_of-act home files (Came p) source transfer = next_of-upper files p.flow.src (heard home p) source transfer
+next_of-act home files a source transfer = grind (arith, next_of-upper)
 
 pub next_of-rises : (home : Address) (acts more : List Act) (source : Address) (transfer : ℕ) → next_of (files_of home acts) source transfer ≤ next_of (files_of home (acts ++ more)) source transfer
 next_of-rises home acts more source transfer = by_last (λ xs. next_of (files_of home acts) source transfer ≤ next_of (files_of home (acts ++ xs)) source transfer)
@@ -82,14 +61,7 @@ pub record HasCome (home : Address) (acts : List Act) (source : Address) (above 
   pub brings : heard home packet ≡ above
 
 pub come_before : (home : Address) (acts : List Act) (a : Act) (source : Address) (above : Upper) → HasCome home acts source above → HasCome home (acts ++ a ∷ []) source above
-come_before home acts a source above h = record {
-  before = h.before;
-  after = h.after ++ a ∷ [];
-  packet = h.packet;
-  is = ap (λ xs. xs ++ a ∷ []) h.is ∙ append_assoc h.before (Came h.packet ∷ h.after) (a ∷ []);
-  from = h.from;
-  brings = h.brings;
-}
+come_before home acts a source above h = grind (arith, append_assoc)
 
 pub come_now : (home : Address) (acts : List Act) (p : PacketData) (source : Address) (above : Upper) → p.flow.src.0 ≡ source.0 → heard home p ≡ above → HasCome home (acts ++ Came p ∷ []) source above
 come_now home acts p source above from brings = record { before = acts; after = []; packet = p; is = refl; from = from; brings = brings }
@@ -106,13 +78,12 @@ range_with files at one source transfer r c =
 
 range_upper : (files : Files) (at : Address) (above : Upper) (source : Address) (transfer : ℕ) (r : DataLine) → Contains (ranges_of (after_upper files at above) source transfer) r → Contains (ranges_of files source transfer) r ⊎ ((at.0 ≡ source.0) × (above ≡ Data transfer r.first r.bytes))
 unfolding after_upper range_of
-range_upper files at Nothing source transfer r c = inl c
 range_upper files at (Data number first bytes) source transfer r c = ⊎_elim
     (λ yes. ⊎_elim (λ old. inl old) (λ new. let same = new.2 in let numbers = new.1 in inr (new.0, ap (λ n. Data n first bytes) numbers ∙ ap (λ (x : DataLine). Data transfer x.first x.bytes) same))
     (range_with files at (record { transfer = number; first = first; bytes = bytes }) source transfer r (rw yes at c)))
     (λ no. inl (rw no at c))
     (cases_Bool (eqb first (next_of files at number)))
-range_upper files at (Ack number next) source transfer r c = inl c
+range_upper files at _ source transfer r c = inl c
 
 range_act : (home : Address) (xs : List Act) (a : Act) (source : Address) (transfer : ℕ) (r : DataLine) → (Contains (ranges_of (files_of home xs) source transfer) r → HasCome home xs source (Data transfer r.first r.bytes)) → Contains (ranges_of (after_act home (files_of home xs) a) source transfer) r → HasCome home (xs ++ a ∷ []) source (Data transfer r.first r.bytes)
 range_act home xs (Filed dst size segment) source transfer r before c = come_before home xs (Filed dst size segment) source (Data transfer r.first r.bytes) (before c)

@@ -1,13 +1,9 @@
 -- What a courier knows of files, after what comes in.
-use Rattle.tva_transfer.proofs.Common.{◌≡◌, ℕ, ◌+◌, true, false, cond, eqb, ltb, ◌&&◌, List, [], ◌∷◌, Some, None, refl, sym, ap, ◌∙◌, ⊎_elim, add-zero, zero-add, set, length, ◌≤◌, lookup, filter, slice_get, sum_by, unwrap_or, cases_Bool, and_parts, eqb-true, eq-eqb, filter-append, sum_by-append, set-get_or, get_or_from_slice_get, slice_get_past, Transfer, Address, Upper, Nothing, Data, Ack, DataLine, Files, after_upper, answer_to, acknowledged, is_more, is_of, next_of, range_of, segment_of, with_range, CourierData, Knows, next_kept}
+use Rattle.tva_transfer.proofs.Common.{◌≡◌, ℕ, ◌+◌, true, false, cond, eqb, ltb, ◌&&◌, List, [], ◌∷◌, Some, None, refl, sym, ap, ◌∙◌, ⊎_elim, add-zero, zero-add, set, length, ◌≤◌, lookup, filter, slice_get, sum_by, unwrap_or, cases_Bool, and_parts, eqb-true, eq-eqb, filter-append, sum_by-append, set-get_or, get_or_from_slice_get, slice_get_past, Transfer, Address, Upper, Nothing, Data, Ack, DataLine, Files, after_upper, answer_to, acknowledged, is_more, is_of, next_of, range_of, segment_of, with_range, CourierData, Knows, next_kept, arith, rules, nat_tests, common_steps}
 
 -- where a range begins is kept by the source and the transfer alone
 pub next_kept-same : (nexts : List ((Address × ℕ) × ℕ)) (source s : Address) (transfer t : ℕ) → (eqb source.0 s.0 && eqb transfer t) ≡ true → next_kept nexts s t ≡ next_kept nexts source transfer
-next_kept-same nexts source s transfer t e =
-    let parts = and_parts (eqb source.0 s.0) (eqb transfer t) e in
-    let one = eqb-true source.0 s.0 parts.0 in
-    let two = eqb-true transfer t parts.1 in
-    sym (ap (λ x. unwrap_or (lookup (λ (key : Address × ℕ). eqb x key.0.0 && eqb transfer key.1) nexts) 0) one ∙ ap (λ x. unwrap_or (lookup (λ (key : Address × ℕ). eqb s.0 key.0.0 && eqb x key.1) nexts) 0) two)
+next_kept-same nexts source s transfer t e = grind (arith, and_parts, eqb-true)
 
 -- other entries of the same meaning
 pub knows_same : (v : CourierData) (files : Files) (nexts : List ((Address × ℕ) × ℕ)) → ((s : Address) (t : ℕ) → next_kept nexts s t ≡ next_kept v.nexts s t) → Knows v files → Knows (record v { nexts = nexts }) files
@@ -15,10 +11,7 @@ knows_same v files nexts same k = record { transfers = k.transfers; nexts = λ s
 
 -- an entry that says so already
 pub next_kept-still : (nexts : List ((Address × ℕ) × ℕ)) (source : Address) (transfer next : ℕ) → next ≡ next_kept nexts source transfer → (s : Address) (t : ℕ) → next_kept nexts s t ≡ cond (eqb source.0 s.0 && eqb transfer t) next (next_kept nexts s t)
-next_kept-still nexts source transfer next is s t = ⊎_elim
-    (λ here. rw here (next_kept-same nexts source s transfer t here ∙ sym is))
-    (λ there. rw there refl)
-    (cases_Bool (eqb source.0 s.0 && eqb transfer t))
+next_kept-still nexts source transfer next is s t = grind (arith, next_kept-same, cases_Bool)
 
 pub range_of-kept : (v : CourierData) (files : Files) → Knows v files → (source : Address) (transfer first bytes : ℕ) → range_of files source (Data transfer first bytes) ≡ cond (eqb first (next_kept v.nexts source transfer)) (Some (record { transfer = transfer; first = first; bytes = bytes })) None
 unfolding range_of
@@ -26,25 +19,16 @@ range_of-kept v files k source transfer first bytes = rw (k.nexts source transfe
 
 pub range_of-none : (files : Files) (source : Address) (above : Upper) → ((transfer first bytes : ℕ) → above ≡ Data transfer first bytes → ⊥) → None ≡ range_of files source above
 unfolding range_of
-range_of-none files source Nothing h = refl
-range_of-none files source (Data transfer first bytes) h = absurd (h transfer first bytes refl)
-range_of-none files source (Ack transfer next) h = refl
+range_of-none files source above h = grind arith
 
 -- ## the ranges that were delivered
 
 pub next_of-more : (files : Files) (source : Address) (r : DataLine) (s : Address) (t : ℕ) → next_of (with_range source (Some r) files) s t ≡ next_of files s t + cond (is_of s t (source, r)) r.bytes 0
-next_of-more files source r s t =
-    ap (λ (xs : List (Address × DataLine)). sum_by (λ (x : Address × DataLine). x.1.bytes) xs) (filter-append (is_of s t) files.ranges ((source, r) ∷ []))
-    ∙ sum_by-append (λ (x : Address × DataLine). x.1.bytes) (filter (is_of s t) files.ranges) (filter (is_of s t) ((source, r) ∷ []))
-    ∙ ap (λ n. next_of files s t + n) (elim (is_of s t (source, r)) as (λ b. sum_by (λ (x : Address × DataLine). x.1.bytes) (cond b ((source, r) ∷ []) []) ≡ cond b r.bytes 0) [ true ↦ zero-add r.bytes | false ↦ refl ])
+next_of-more files source r s t = grind (arith, sum_by, filter-append, sum_by-append, zero-add)
 
 -- a source's transfer is told apart by its numbers alone
 pub next_of-same : (files : Files) (source s : Address) (transfer t : ℕ) → (eqb source.0 s.0 && eqb transfer t) ≡ true → next_of files s t ≡ next_of files source transfer
-next_of-same files source s transfer t e =
-    let parts = and_parts (eqb source.0 s.0) (eqb transfer t) e in
-    let one = eqb-true source.0 s.0 parts.0 in
-    let two = eqb-true transfer t parts.1 in
-    sym (ap (λ x. sum_by (λ (r : Address × DataLine). r.1.bytes) (filter (λ (r : Address × DataLine). eqb r.0.0 x && eqb r.1.transfer transfer) files.ranges)) one ∙ ap (λ x. sum_by (λ (r : Address × DataLine). r.1.bytes) (filter (λ (r : Address × DataLine). eqb r.0.0 s.0 && eqb r.1.transfer x) files.ranges)) two)
+next_of-same files source s transfer t e = grind (arith, and_parts, eqb-true, sum_by)
 
 -- where the next range begins after one that came
 abbrev pub behind : ℕ → ℕ → ℕ → ℕ
@@ -52,27 +36,11 @@ behind next first bytes = cond (eqb first next) (next + bytes) next
 
 pub next_of-after : (files : Files) (source : Address) (transfer first bytes : ℕ) (s : Address) (t : ℕ) → next_of (after_upper files source (Data transfer first bytes)) s t ≡ cond (eqb source.0 s.0 && eqb transfer t) (behind (next_of files s t) first bytes) (next_of files s t)
 unfolding after_upper range_of
-next_of-after files source transfer first bytes s t =
-    let n = next_of files s t in
-    let m = next_of files source transfer in
-    let r : DataLine = record { transfer = transfer; first = first; bytes = bytes } in
-    let here = eqb source.0 s.0 && eqb transfer t in
-    let step : next_of (with_range source (cond (eqb first m) (Some r) None) files) s t ≡ cond (eqb first m) (n + cond here bytes 0) n =
-    elim (eqb first m) as (λ b. next_of (with_range source (cond b (Some r) None) files) s t ≡ cond b (n + cond here bytes 0) n) [ true ↦ next_of-more files source r s t | false ↦ refl ] in
-    step ∙ ⊎_elim
-    (λ yes. rw yes (ap (λ x. cond (eqb first x) (n + bytes) n) (sym (next_of-same files source s transfer t yes))))
-    (λ no. rw no (elim (eqb first m) as (λ b. cond b (n + 0) n ≡ n) [ true ↦ add-zero n | false ↦ refl ]))
-    (cases_Bool here)
+next_of-after files source transfer first bytes s t = grind (arith, next_of-more, next_of-same, add-zero, cases_Bool)
 
 pub knows_delivered : (v : CourierData) (files : Files) (source : Address) (transfer first bytes : ℕ) (nexts : List ((Address × ℕ) × ℕ)) → ((s : Address) (t : ℕ) → next_kept nexts s t ≡ cond (eqb source.0 s.0 && eqb transfer t) (behind (next_kept v.nexts source transfer) first bytes) (next_kept v.nexts s t)) → Knows v files → Knows (record v { nexts = nexts }) (after_upper files source (Data transfer first bytes))
 unfolding after_upper
-knows_delivered v files source transfer first bytes nexts e k = record {
-  transfers = k.transfers ∙ elim (range_of files source (Data transfer first bytes)) as (λ o. files.transfers ≡ (with_range source o files).transfers) [ None ↦ refl | Some r ↦ refl ];
-  nexts = λ s t. e s t ∙ ⊎_elim
-      (λ yes. rw yes (ap (λ n. behind n first bytes) (k.nexts source transfer ∙ sym (next_of-same files source s transfer t yes))))
-      (λ no. rw no (k.nexts s t))
-      (cases_Bool (eqb source.0 s.0 && eqb transfer t)) ∙ sym (next_of-after files source transfer first bytes s t);
-}
+knows_delivered v files source transfer first bytes nexts e k = grind (arith, next_of-same, cases_Bool, next_of-after)
 
 pub answer_to-data : (v : CourierData) (files : Files) → Knows v files → (source : Address) (transfer first bytes : ℕ) → answer_to files source (Data transfer first bytes) ≡ Ack transfer (behind (next_kept v.nexts source transfer) first bytes)
 unfolding answer_to

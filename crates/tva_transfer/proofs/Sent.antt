@@ -1,5 +1,5 @@
 -- What a host sends belongs to its transfers, and what it takes as acknowledged came in.
-use Rattle.tva_transfer.proofs.Common.{◌≡◌, ℕ, ◌+◌, ◌-◌, ◌≤◌, ◌&&◌, ◌⊎◌, true, false, cond, eqb, ltb, min, List, [], ◌∷◌, ◌++◌, Option, Some, None, length, set, refl, sym, ap, subst, inl, inr, ◌∙◌, ⊎_elim, append_assoc, arith, position, slice_get, option_and_then, option_map, option_map_or, and_parts, cases_Bool, eqb-true, eq-eqb, ne_eqb, ltb-true, append-nil, get_or_from_slice_get, slice_get_within, some_pair_parts, Address, Flow, Upper, Nothing, Data, Ack, DataLine, Transfer, Files, Act, Filed, Ticked, Came, acknowledged, after_act, after_upper, answer_to, begun, files_of, first_segment, heard, is_due, is_more, next_of, number_of, range_of, segment_behind, segment_due, segment_of, with_acked, with_range, sent_by, to_from}
+use Rattle.tva_transfer.proofs.Common.{◌≡◌, ℕ, ◌+◌, ◌-◌, ◌≤◌, ◌&&◌, ◌⊎◌, true, false, cond, eqb, ltb, min, List, [], ◌∷◌, ◌++◌, Option, Some, None, length, set, refl, sym, ap, subst, inl, inr, ◌∙◌, ⊎_elim, append_assoc, arith, position, slice_get, option_and_then, option_map, option_map_or, and_parts, cases_Bool, eqb-true, eq-eqb, ne_eqb, ltb-true, append-nil, get_or_from_slice_get, slice_get_within, some_pair_parts, Address, Flow, Upper, Nothing, Data, Ack, DataLine, Transfer, Files, Act, Filed, Ticked, Came, acknowledged, after_act, after_upper, answer_to, begun, files_of, first_segment, heard, is_due, is_more, next_of, number_of, range_of, segment_behind, segment_due, segment_of, with_acked, with_range, sent_by, to_from, rules, nat_tests, common_steps}
 use Rattle.std.proofs.lemmas.List.Quantifiers.{position-Some}
 use Rattle.tva_transfer.proofs.Acts.{by_last}
 use Rattle.tva_transfer.proofs.History.{HasCome, come_before, come_now}
@@ -23,8 +23,7 @@ kept_same : (ts : List Transfer) (place : ℕ) (t : Transfer) → slice_get ts p
 kept_same ts place t at = record { now = t; at = at; dst = refl; size = refl }
 
 ranges_only : (files : Files) (at : Address) (o : Option DataLine) → (with_range at o files).transfers ≡ files.transfers
-ranges_only files at None = refl
-ranges_only files at (Some r) = refl
+ranges_only files at o = grind arith
 
 acked_dst : (source : Address) (next : ℕ) (u : Transfer) → (with_acked source next u).dst ≡ u.dst
 acked_dst source next u = elim (is_more source next u) as (λ b. (cond b (record u { acked = next }) u).dst ≡ u.dst) [ true ↦ refl | false ↦ refl ]
@@ -51,17 +50,10 @@ kept_acked source number next ts place t at = go (slice_get ts number) refl wher
 
 kept_upper : (files : Files) (source : Address) (above : Upper) (place : ℕ) (t : Transfer) → slice_get files.transfers place ≡ Some t → IsKept (after_upper files source above).transfers place t
 unfolding after_upper
-kept_upper files source Nothing place t at = kept_same files.transfers place t at
-kept_upper files source (Data number first bytes) place t at = rw (ranges_only files source (range_of files source (Data number first bytes))) (kept_same files.transfers place t at)
-kept_upper files source (Ack number next) place t at = kept_acked source number next files.transfers place t at
+kept_upper files source above place t at = grind (arith, kept_same, ranges_only, kept_acked)
 
 kept_act : (home : Address) (files : Files) (a : Act) (place : ℕ) (t : Transfer) → slice_get files.transfers place ≡ Some t → IsKept (after_act home files a).transfers place t
-kept_act home files (Filed dst size segment) place t at =
-    let within = slice_get_within files.transfers place t at in
-    let other = ne_eqb place (length files.transfers) (λ e. absurd (omega (arith, e, within))) in
-    kept_same (files.transfers ++ begun dst size segment ∷ []) place t (slice_get-push files.transfers (begun dst size segment) place ∙ rw other at)
-kept_act home files (Ticked dst) place t at = kept_same files.transfers place t at
-kept_act home files (Came p) place t at = kept_upper files p.flow.src (heard home p) place t at
+kept_act home files a place t at = grind (arith, ne_eqb, slice_get_within, kept_same, slice_get-push, kept_upper)
 
 pub stays : (home : Address) (acts more : List Act) (place : ℕ) (t : Transfer) → slice_get (files_of home acts).transfers place ≡ Some t → IsKept (files_of home (acts ++ more)).transfers place t
 stays home acts more place t at = by_last (λ xs. IsKept (files_of home (acts ++ xs)).transfers place t)
@@ -92,27 +84,13 @@ acked_ack source number next ts place t at = go (slice_get ts number) refl at wh
 
 acked_upper : (files : Files) (source : Address) (above : Upper) (place : ℕ) (t : Transfer) → slice_get (after_upper files source above).transfers place ≡ Some t → (slice_get files.transfers place ≡ Some t) ⊎ ((source.0 ≡ t.dst.0) × (above ≡ Ack place t.acked))
 unfolding after_upper
-acked_upper files source Nothing place t at = inl at
-acked_upper files source (Data number first bytes) place t at = inl (rw (ranges_only files source (range_of files source (Data number first bytes))) at at)
-acked_upper files source (Ack number next) place t at = acked_ack source number next files.transfers place t at
+acked_upper files source above place t at = grind (arith, ranges_only, acked_ack)
 
 acked_more : (home : Address) (xs : List Act) (a : Act) (place : ℕ) (t : Transfer) → (t.acked ≡ 0) ⊎ HasCome home xs t.dst (Ack place t.acked) → (t.acked ≡ 0) ⊎ HasCome home (xs ++ a ∷ []) t.dst (Ack place t.acked)
 acked_more home xs a place t before = ⊎_elim (λ none. inl none) (λ come. inr (come_before home xs a t.dst (Ack place t.acked) come)) before
 
 acked_act : (home : Address) (xs : List Act) (a : Act) (place : ℕ) → ((t : Transfer) → slice_get (files_of home xs).transfers place ≡ Some t → (t.acked ≡ 0) ⊎ HasCome home xs t.dst (Ack place t.acked)) → (t : Transfer) → slice_get (after_act home (files_of home xs) a).transfers place ≡ Some t → (t.acked ≡ 0) ⊎ HasCome home (xs ++ a ∷ []) t.dst (Ack place t.acked)
-acked_act home xs (Filed dst size segment) place before t at =
-    let ts = (files_of home xs).transfers in
-    let step = slice_get-push ts (begun dst size segment) place in ⊎_elim
-    (λ yes. let is : Some (begun dst size segment) ≡ Some t = sym (rw yes at step) ∙ at in
-    let same : begun dst size segment ≡ t = cc in
-    inl (sym (ap (λ (x : Transfer). x.acked) same)))
-    (λ no. acked_more home xs (Filed dst size segment) place t (before t (sym (rw no at step) ∙ at)))
-    (cases_Bool (eqb place (length ts)))
-acked_act home xs (Ticked dst) place before t at = acked_more home xs (Ticked dst) place t (before t at)
-acked_act home xs (Came p) place before t at = ⊎_elim
-    (λ old. acked_more home xs (Came p) place t (before t old))
-    (λ new. inr (come_now home xs p t.dst (Ack place t.acked) new.0 new.1))
-    (acked_upper (files_of home xs) p.flow.src (heard home p) place t at)
+acked_act home xs a place before t at = grind (arith, slice_get-push, acked_more, cases_Bool, come_now, acked_upper)
 
 -- of each transfer nothing is acknowledged, or what its destination acknowledged
 pub acked_came : (home : Address) (acts : List Act) (place : ℕ) (t : Transfer) → slice_get (files_of home acts).transfers place ≡ Some t → (t.acked ≡ 0) ⊎ HasCome home acts t.dst (Ack place t.acked)
@@ -132,11 +110,7 @@ pub record IsOf (ts : List Transfer) (dst : Address) (number first bytes : ℕ) 
   pub fits : first + bytes ≤ transfer.size
 
 of_segment : (ts : List Transfer) (place : ℕ) (t now : Transfer) (dst : Address) (number first bytes : ℕ) → slice_get ts place ≡ Some now → now.dst ≡ dst → now.size ≡ t.size → t.acked ≤ t.size → segment_of place t ≡ Data number first bytes → IsOf ts dst number first bytes
-of_segment ts place t now dst number first bytes at to size le e =
-    let n : number_of place ≡ number = cc in
-    let f : t.acked ≡ first = cc in
-    let b : min t.segment (t.size - t.acked) ≡ bytes = cc in
-    record { place = place; transfer = now; at = at; to = to; numbered = n; fits = omega (arith, f, b, size, le) }
+of_segment ts place t now dst number first bytes at to size le e = grind arith
 
 -- a segment that is due is that of a transfer which is due
 pub record IsDueFrom (ts : List Transfer) (dst : Address) (above : Upper) : Type 0 where
@@ -163,23 +137,20 @@ due_from files dst above h = go (position (is_due dst) files.transfers) refl h w
 -- what answers an acknowledgement is the next segment of its transfer
 answer_data : (files : Files) (source : Address) (above : Upper) (number first bytes : ℕ) → answer_to files source above ≡ Data number first bytes → IsOf (after_upper files source above).transfers source number first bytes
 unfolding answer_to after_upper
-answer_data files source Nothing number first bytes h = absurd (cc)
-answer_data files source (Data n f b) number first bytes h = absurd (cc)
 answer_data files source (Ack n next) number first bytes h = go (slice_get files.transfers n) refl h where
   go : (o : Option Transfer) → slice_get files.transfers n ≡ o → option_map_or (segment_behind source n next) o Nothing ≡ Data number first bytes → IsOf (acknowledged source n next files.transfers) source number first bytes
   go None e h = absurd (cc)
   go (Some u) e h = ⊎_elim
       (λ yes. let parts = and_parts (is_more source next u) (ltb next u.size) yes in
-      let to = eqb-true u.dst.0 source.0 (and_parts (eqb u.dst.0 source.0) (ltb u.acked next) parts.0).0 in
       let less = ltb-true next u.size parts.1 in
       let now : Transfer = record u { acked = next } in
-      let step = slice_get-set files.transfers n now n in
-      let at : slice_get (set files.transfers n now) n ≡ Some now = step ∙ rw (eq-eqb n n refl, e) refl in
+      let at : slice_get (set files.transfers n now) n ≡ Some now = (slice_get-set files.transfers n now n) ∙ rw (eq-eqb n n refl, e) refl in
       of_segment (acknowledged source n next files.transfers) n now now source number first bytes
       (subst (λ ts. slice_get ts n ≡ Some now) (acknowledged-more source n next files.transfers u e parts.0) at)
-      (address_is u.dst source to) refl (omega (arith, less)) (rw yes at h))
+      (address_is u.dst source (eqb-true u.dst.0 source.0 (and_parts (eqb u.dst.0 source.0) (ltb u.acked next) parts.0).0)) refl (omega (arith, less)) (rw yes at h))
       (λ no. absurd (cc (rw no at h)))
       (cases_Bool (is_more source next u && ltb next u.size))
+answer_data files source _ number first bytes h = absurd (cc)
 
 pub sent_data : (home : Address) (files : Files) (act : Act) (flow : Flow) (number first bytes : ℕ) → sent_by home files act ≡ Some (flow, Data number first bytes) → IsOf (after_act home files act).transfers flow.dst number first bytes
 sent_data home files (Filed dst size segment) flow number first bytes h =
@@ -198,19 +169,13 @@ sent_data home files (Ticked dst) flow number first bytes h = go (segment_due fi
       let less = ltb-true d.transfer.acked d.transfer.size tests.1 in
       of_segment files.transfers d.place d.transfer d.transfer flow.dst number first bytes d.at
       (address_is d.transfer.dst dst (eqb-true d.transfer.dst.0 dst.0 tests.0) ∙ ap (λ (f : Flow). f.dst) parts.0) refl (omega (arith, less)) (d.segment ∙ parts.1)
-sent_data home files (Came p) flow number first bytes h =
-    let parts = some_pair_parts (to_from p.flow.src home) flow (answer_to files p.flow.src (heard home p)) (Data number first bytes) h in
-    subst (λ (f : Flow). IsOf (after_upper files p.flow.src (heard home p)).transfers f.dst number first bytes) parts.0
-    (answer_data files p.flow.src (heard home p) number first bytes parts.1)
+sent_data home files (Came p) flow number first bytes h = grind (arith, some_pair_parts, answer_data)
 
 -- what acknowledges a range says how much was delivered
 answer_ack : (files : Files) (source : Address) (above : Upper) (number next : ℕ) → answer_to files source above ≡ Ack number next → next ≡ next_of (after_upper files source above) source number
 unfolding answer_to
 answer_ack files source Nothing number next h = absurd (cc)
-answer_ack files source (Data n f b) number next h =
-    let same : n ≡ number = cc in
-    let is : next_of (after_upper files source (Data n f b)) source n ≡ next = cc in
-    sym is ∙ ap (λ k. next_of (after_upper files source (Data n f b)) source k) same
+answer_ack files source (Data n f b) number next h = grind arith
 answer_ack files source (Ack n m) number next h = go (slice_get files.transfers n) h where
   go : (o : Option Transfer) → option_map_or (segment_behind source n m) o Nothing ≡ Ack number next → next ≡ next_of (after_upper files source (Ack n m)) source number
   go None h = absurd (cc)
@@ -223,9 +188,7 @@ sent_ack home files (Ticked dst) flow number next h = go (segment_due files dst)
   go : (o : Option Upper) → segment_due files dst ≡ o → option_map {U = Flow × Upper} (λ above. (to_from dst home, above)) o ≡ Some (flow, Ack number next) → next ≡ next_of files flow.dst number
   go None e h = absurd (cc)
   go (Some above) e h =
-      let parts = some_pair_parts (to_from dst home) flow above (Ack number next) h in
-      let d = due_from files dst above e in
-      absurd (cc (d.segment, parts.1))
+      absurd (cc ((due_from files dst above e).segment, (some_pair_parts (to_from dst home) flow above (Ack number next) h).1))
 sent_ack home files (Came p) flow number next h =
     let parts = some_pair_parts (to_from p.flow.src home) flow (answer_to files p.flow.src (heard home p)) (Ack number next) h in
     answer_ack files p.flow.src (heard home p) number next parts.1 ∙ ap (λ (f : Flow). next_of (after_upper files p.flow.src (heard home p)) f.dst number) parts.0

@@ -1,5 +1,5 @@
 -- For which calls and acts a courier stands, after one more.
-use Rattle.tva_transfer.proofs.Common.{◌≡◌, ℕ, List, [], ◌∷◌, ◌++◌, Result, Ok, Err, sym, ap, subst, ◌∙◌, fold-append, Address, Call, Files, Act, Filed, after_act, begun, files_of, next_of, no_files, CourierData, Knows, StandsFor, known, next_kept}
+use Rattle.tva_transfer.proofs.Common.{◌≡◌, ℕ, List, [], ◌∷◌, ◌++◌, Result, Ok, Err, sym, ap, subst, ◌∙◌, fold-append, Address, Call, Files, Act, Filed, after_act, begun, files_of, next_of, no_files, CourierData, Knows, StandsFor, known, next_kept, arith, rules, nat_tests, common_steps}
 use Rattle.std.specs.Result.{OnErr}
 use Rattle.tva_base.specs.declared.plan.HostPlan.{HostPlan}
 use Rattle.tva_host.specs.Stands as host
@@ -19,16 +19,10 @@ stands_again old new calls acts same k s = record {
 
 -- after one more act, by the host's calls
 pub stands_act : (old new : CourierData) (calls more : List Call) (acts : List Act) (a : Act) → new.host.plan ≡ old.host.plan → host.StandsFor new.host more → Knows new (after_act old.host.plan.address (known old.host acts) a) → StandsFor new more (acts ++ a ∷ [])
-stands_act old new calls more acts a same h k = record {
-  host = h;
-  files = subst (λ (files : Files). Knows new files) (sym (known-push old.host new.host acts a same)) k;
-}
+stands_act old new calls more acts a same h k = grind (arith, known-push)
 
 pub knows_filed : (home : Address) (old new : CourierData) (files : Files) (dst : Address) (size segment : ℕ) → new.transfers ≡ old.transfers ++ begun dst size segment ∷ [] → new.nexts ≡ old.nexts → Knows old files → Knows new (after_act home files (Filed dst size segment))
-knows_filed home old new files dst size segment ts ns k = record {
-  transfers = ts ∙ ap (λ xs. xs ++ begun dst size segment ∷ []) k.transfers;
-  nexts = subst (λ (nexts : List ((Address × ℕ) × ℕ)). (source : Address) (transfer : ℕ) → next_kept nexts source transfer ≡ next_of files source transfer) (sym ns) k.nexts;
-}
+knows_filed home old new files dst size segment ts ns k = grind arith
 
 -- whatever the host is
 pub knows_at : (v : CourierData) (h : host.HostData) (files : Files) → Knows v files → Knows (record v { host = h }) files
@@ -36,11 +30,7 @@ knows_at v h files k = record { transfers = k.transfers; nexts = k.nexts }
 
 -- where memory was wanting in the host
 pub stands_refused : (v : CourierData) (h : host.HostData) (calls : List Call) (acts : List Act) → h.plan ≡ v.host.plan → host.StandsFor h calls → StandsFor v calls acts → StandsFor (record v { host = h }) calls acts
-stands_refused v h calls acts same stands s = record {
-  host = stands;
-  files = subst (λ (p : HostPlan). Knows (record v { host = h }) (files_of p.address acts)) (sym same) (knows_at v h (known v.host acts) s.files);
-}
+stands_refused v h calls acts same stands s = grind (arith, knows_at)
 
 pub on_err : {T E : Type 0} (r : Result T E) (P : Type 0) → P → OnErr r P
-on_err (Ok x) P p = tt
-on_err (Err e) P p = p
+on_err r P p = grind arith

@@ -4,12 +4,9 @@ use Rattle.std.specs.Prelude.{◌*◌}
 use Rattle.std.specs.List.{IsDistinct}
 use Rattle.std.specs.Option.{option_map}
 use Rattle.std.proofs.lemmas.Map.Steps.{length-le_from_distinct_below}
+use Rattle.tva_run.proofs.Joins.{each-map}
 
 -- ## what stands before others
-
-each_map : {X Y : Type 0} (f : X → Y) (P : Y → Type 0) (xs : List X) → AllByRecursion (λ x. P (f x)) xs → AllByRecursion P (map f xs)
-each_map f P [] h = tt
-each_map f P (x ∷ xs) h = (h.0, each_map f P xs h.1)
 
 map_each : {X Y : Type 0} (f : X → Y) (P : Y → Type 0) (xs : List X) → AllByRecursion P (map f xs) → AllByRecursion (λ x. P (f x)) xs
 map_each f P [] h = tt
@@ -188,7 +185,7 @@ sources_below (q ∷ qs) a s h = elim (cases_Bool (s == q.source)) [
 distinct : (qs : List Queue) → AreQueues qs → IsDistinct (λ m n. m == n) (map (λ q. q.source) qs)
 unfolding IsDistinct
 distinct [] a = tt
-distinct (q ∷ qs) a = (each_map (λ (o : Queue). o.source) (λ n. (q.source == n) ≡ false) qs (each-weaker (λ o. o.source ≡ q.source → ⊥) (λ o. (q.source == o.source) ≡ false) (λ o n. ne_eqb q.source o.source (λ e. n (sym e))) qs a.1), distinct qs a.2)
+distinct (q ∷ qs) a = (each-map (λ (o : Queue). o.source) (λ n. (q.source == n) ≡ false) qs (each-weaker (λ o. o.source ≡ q.source → ⊥) (λ o. (q.source == o.source) ≡ false) (λ o n. ne_eqb q.source o.source (λ e. n (sym e))) qs a.1), distinct qs a.2)
 
 pub few_queues : (qs : List Queue) → AreQueues qs → length qs ≤ 2 ^ 17
 few_queues qs a = subst (λ n. n ≤ 2 ^ 17) (length-map qs (λ (q : Queue). q.source)) (length-le_from_distinct_below (map (λ q. q.source) qs) (2 ^ 17) (distinct qs a) (sources_below qs a))

@@ -2,6 +2,9 @@
 use Rattle.tva_waiting.proofs.Common.{◌≡◌, ℕ, zero, suc, ◌<◌, ◌≤◌, List, [], ◌∷◌, ◌++◌, length, get_or, set, true, false, refl, sym, subst, ◌∙◌, ap, ap₂, arith, inl, inr, ◌⊎◌, nat_lt, ◌==◌, ◌||◌, ◌&&◌, ◌^◌, AllByRecursion, eq-eqb, ne_eqb, cases_Bool, cases_eq, cond-true, cond-false, append-nil, get_or-set_same, length-set, MayPrecede, IsInOrder, from_source, precedes, put_in, sorted, NeverFalls, each-append, each-weaker, filter-true, filter-false, filter-all, filter-none, join_unique, before_yes, each-put_all, each-put_in, each_from_sources, in_order-put_all, in_order-put_in, source-put_all, strictly_trans, Input, input_source, input_time, Arrival, FromTrace, first_time, is_row_first, AreQueues, IsNextIn, IsQueue, Queue, all_in}
 use Rattle.std.proofs.lemmas.Bool.Decides.{nat_tests}
 use Rattle.std.proofs.lemmas.List.Elements.{filter-append}
+use Rattle.tva_run.proofs.Putting.{source-put_in_other}
+use Rattle.tva_run.proofs.LogWalks.{each_front}
+use Rattle.tva_run.proofs.Joins.{each-right}
 
 -- ## one source of a list in order
 
@@ -44,20 +47,6 @@ module _ {X : Type 0} (time source : X → ℕ) where
                   filter-false (λ z. source z == source x) y (put_in time source x ys) e
                   ∙ (source-put_in_own x ys h.1
                   ∙ ap (put_in time source x) (sym (filter-false (λ z. source z == source x) y ys e)))
-            ]
-      ]
-
-  -- those of another source stay as they are
-  source-put_in_other : (s : ℕ) (x : X) (ys : List X) → (source x ≡ s → ⊥) → from_source source s (put_in time source x ys) ≡ from_source source s ys
-  source-put_in_other s x [] n = filter-false (λ z. source z == s) x [] (ne_eqb (source x) s n)
-  source-put_in_other s x (y ∷ ys) n =
-      elim (cases_Bool (precedes time source x y)) [
-        | inl a ↦ ap (from_source source s) (cond-true (precedes time source x y) (x ∷ y ∷ ys) (y ∷ put_in time source x ys) a) ∙ filter-false (λ z. source z == s) x (y ∷ ys) (ne_eqb (source x) s n)
-        | inr a ↦
-            ap (from_source source s) (cond-false (precedes time source x y) (x ∷ y ∷ ys) (y ∷ put_in time source x ys) a)
-            ∙ elim (cases_Bool (source y == s)) [
-              | inl e ↦ filter-true (λ z. source z == s) y (put_in time source x ys) e ∙ (ap (λ (zs : List X). y ∷ zs) (source-put_in_other s x ys n) ∙ sym (filter-true (λ z. source z == s) y ys e))
-              | inr e ↦ filter-false (λ z. source z == s) y (put_in time source x ys) e ∙ (source-put_in_other s x ys n ∙ sym (filter-false (λ z. source z == s) y ys e))
             ]
       ]
 
@@ -195,18 +184,10 @@ module _ (qs : List Queue) (p : ℕ) (d : Queue) (x : Input) (a : AreQueues qs) 
 
 -- ## the next
 
-each_first : {X : Type 0} (P : X → Type 0) (xs ys : List X) → AllByRecursion P (xs ++ ys) → AllByRecursion P xs
-each_first P [] ys h = tt
-each_first P (x ∷ xs) ys h = (h.0, each_first P xs ys h.1)
-
-each_second : {X : Type 0} (P : X → Type 0) (xs ys : List X) → AllByRecursion P (xs ++ ys) → AllByRecursion P ys
-each_second P [] ys h = h
-each_second P (x ∷ xs) ys h = each_second P xs ys h.1
-
 each-all : (P : Input → Type 0) (qs : List Queue) (p : ℕ) (q d : Queue) → p < length qs → AllByRecursion P (all_in qs) → (AllByRecursion P (get_or qs p d).inputs → AllByRecursion P q.inputs) → AllByRecursion P (all_in (set qs p q))
 each-all P [] p q d l h w = absurd (omega arith)
-each-all P (r ∷ qs) zero q d l h w = each-append P q.inputs (all_in qs) (w (each_first P r.inputs (all_in qs) h)) (each_second P r.inputs (all_in qs) h)
-each-all P (r ∷ qs) (suc p) q d l h w = each-append P r.inputs (all_in (set qs p q)) (each_first P r.inputs (all_in qs) h) (each-all P qs p q d (omega arith) (each_second P r.inputs (all_in qs) h) w)
+each-all P (r ∷ qs) zero q d l h w = each-append P q.inputs (all_in qs) (w (each_front P r.inputs (all_in qs) h)) (each-right P r.inputs (all_in qs) h)
+each-all P (r ∷ qs) (suc p) q d l h w = each-append P r.inputs (all_in (set qs p q)) (each_front P r.inputs (all_in qs) h) (each-all P qs p q d (omega arith) (each-right P r.inputs (all_in qs) h) w)
 
 queue-rest : (q : Queue) (x : Input) (rest : List Input) → q.inputs ≡ x ∷ rest → IsQueue q → IsQueue (record { source = q.source; inputs = rest })
 queue-rest q x rest e i = record {

@@ -7,9 +7,3 @@ overflow_mul-number c =
     let few : c.loop-byte.byte-index < 6 = omega arith in
     let room : c.loop-byte.number < 2 ^ 40 = five_bytes c.loop-byte.byte-index c.loop-byte.number few c.loop-byte.invariant.room in
     omega arith
-
-pub overflow_add-number : goal.overflow_add-number
-overflow_add-number c =
-    let few : c.loop-byte.byte-index < 6 = omega arith in
-    let room : c.loop-byte.number < 2 ^ 40 = five_bytes c.loop-byte.byte-index c.loop-byte.number few c.loop-byte.invariant.room in
-    omega arith

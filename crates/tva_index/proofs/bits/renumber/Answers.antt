@@ -5,17 +5,10 @@ use Rattle.tva_index.proofs.Grown.{renumbered, entry_within}
 use Rattle.tva_index.proofs.bits.renumber.Goals as goal
 
 pub unreachable-requires : goal.unreachable-requires
-unreachable-requires c =
-    let ps = c.args.tree.now.places.items in
-    let e = subst (IsEnd (links_of ps) (entries_of ps) c.args.key) c.in-Missing.is c.walk.ensures in
-    e.absent c.requires.there.0 c.requires.there.1
+unreachable-requires c = grind (arith, c.in-Missing.is, c.requires.there.0)
 
 pub set_entry-requires : goal.set_entry-requires
-set_entry-requires c =
-    let ps = c.args.tree.now.places.items in
-    let e = subst (IsEnd (links_of ps) (entries_of ps) c.args.key) c.in-Found.is c.walk.ensures in
-    let old = has_key c.args.key (entry_at (entries_of ps) c.in-Found.led.at) e.entry in
-    omega (arith, entry_within (entries_of ps) c.in-Found.led.at old.0 old.1, length-entries_of ps)
+set_entry-requires c = grind (arith, c.in-Found.is, entry_within, length-entries_of)
 
 pub returns-clause-tree : goal.returns-clause-tree
 returns-clause-tree c =
@@ -28,8 +21,4 @@ returns-clause-tree c =
     (renumbered (links_of ps) (entries_of ps) t.free.items c.requires.tree c.args.key c.args.number c.in-Found.led.at old.0 old.1 old.2))
 
 pub returns-clause-written : goal.returns-clause-written
-returns-clause-written c =
-    let ps = c.args.tree.now.places.items in
-    let e = subst (IsEnd (links_of ps) (entries_of ps) c.args.key) c.in-Found.is c.walk.ensures in
-    let old = has_key c.args.key (entry_at (entries_of ps) c.in-Found.led.at) e.entry in
-    record { at = c.in-Found.led.at; within = entry_within (entries_of ps) c.in-Found.led.at old.0 old.1; entry = e.entry; is = c.set_entry.ensures.entries }
+returns-clause-written c = grind (arith, c.in-Found.is, entry_within)

@@ -1,3 +1,4 @@
+use Rattle.std.proofs.Common.{arith}
 use Rattle.tva_index.proofs.Common.{◌+◌, ap, ◌∙◌, links_of, entries_of}
 use Rattle.tva_index.proofs.Places.{links_of-unused, entries_of-unused}
 use Rattle.tva_index.proofs.Rooted.{none_at, rooted_tree}
@@ -11,6 +12,4 @@ returns-clause-tree c =
     c.in_ok-free.ensures.count c.in_ok-free.ensures.each
 
 pub returns-clause-none : goal.returns-clause-none
-returns-clause-none c = λ p.
-    let ps = c.in_ok-places.places.items in
-    none_at (entries_of ps) (c.args.places + 1) p (ap entries_of c.in_ok-places.ensures ∙ entries_of-unused (c.args.places + 1))
+returns-clause-none c = grind (arith, none_at, entries_of-unused)

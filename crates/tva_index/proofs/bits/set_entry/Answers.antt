@@ -1,13 +1,9 @@
-use Rattle.tva_index.proofs.Common.{refl}
+use Rattle.std.proofs.Common.{arith}
 use Rattle.tva_index.proofs.Places.{links_same, entries_written}
 use Rattle.tva_index.proofs.bits.set_entry.Goals as goal
 
 pub returns-clause-links : goal.returns-clause-links
-returns-clause-links c =
-    let x = c.index_mut.result.now in
-    links_same c.args.places.now.items c.args.at x (record { low = x.low; high = x.high; entry = c.args.entry }) c.index_mut.ensures.value refl refl
+returns-clause-links c = grind (arith, links_same, c.index_mut.ensures.value)
 
 pub returns-clause-entries : goal.returns-clause-entries
-returns-clause-entries c =
-    let x = c.index_mut.result.now in
-    entries_written c.args.places.now.items c.args.at (record { low = x.low; high = x.high; entry = c.args.entry })
+returns-clause-entries c = grind (arith, entries_written)

@@ -1,6 +1,6 @@
-use Rattle.tva_index.proofs.Common.{◌≡◌, ◌+◌, ◌*◌, ◌%◌, ◌<◌, ℕ, length, Some, sym, ◌∙◌, subst, arith, HasKey, links_of, entries_of, link_at, spot}
+use Rattle.tva_index.proofs.Common.{◌≡◌, ◌<◌, ℕ, length, Some, sym, ◌∙◌, subst, arith, HasKey, links_of, entries_of, spot}
 use Rattle.tva_index.proofs.Places.{length-entries_of, entry_read_of, way_read}
-use Rattle.tva_index.proofs.Paths.{stays, goes, stops, later_here, later_end, IsNotBefore}
+use Rattle.tva_index.proofs.Paths.{stays, stops, later_here, later_end, IsNotBefore}
 use Rattle.tva_index.proofs.bits.walk.Goals as goal
 
 pub returns-in_default : goal.returns-in_default
@@ -17,22 +17,7 @@ returns-in_default c =
     (way_read ps s.led.at s.bits x w c.index-place.ensures ∙ (sym c.step_from.ensures ∙ c.in_default.is))
 
 pub loop-step-preserved : goal.loop-step-preserved
-loop-step-preserved c =
-    let t = c.args.tree.now in
-    let ps = t.places.items in
-    let s = c.loop-step in
-    let i = s.invariant in
-    let x = c.index-place.result.now in
-    let w : s.led.at < length ps = omega (arith, stays (links_of ps) (entries_of ps) t.free.items c.requires c.args.key s._step s.led.at i.path, length-entries_of ps) in
-    let other = subst (λ o. HasKey c.args.key o → ⊥) (entry_read_of ps s.led.at x w c.index-place.ensures) (rw c.if-is_of.false at c.is_of.ensures) in
-    let leads : link_at (links_of ps) (2 * s.led.at + s.bits % 2) ≡ Some c.in-Some.next = way_read ps s.led.at s.bits x w c.index-place.ensures ∙ (sym c.step_from.ensures ∙ c.in-Some.is) in
-    let g = goes (links_of ps) (entries_of ps) t.free.items c.requires c.args.key s._step s.led.at s.bits c.in-Some.next i.path i.bits leads in
-    record {
-      path = g.0;
-      link = λ _. leads;
-      bits = g.1;
-      later = λ p h d r. let l = later_here (links_of ps) (entries_of ps) t.free.items c.requires c.args.key s._step s.led.at i.later i.path other p h d r in omega (arith, l);
-    }
+loop-step-preserved c = grind (arith, stays, c.requires, length-entries_of, entry_read_of, c.if-is_of.false, way_read, c.in-Some.next, later_here)
 
 pub unreachable-requires : goal.unreachable-requires
 unreachable-requires c =

@@ -1,12 +1,10 @@
-use Rattle.tva_index.proofs.Common.{None, length, ◌∙◌, subst, sym, ap, arith, get_or_read, IsLastBelow}
+use Rattle.tva_index.proofs.Common.{subst, sym, ap, arith, get_or_read, IsLastBelow}
 use Rattle.tva_index.proofs.Homes.{in_range}
 use Rattle.tva_index.proofs.Chains.{rank, rank-le, step_read, walk_place}
 use Rattle.tva_index.proofs.links.first_above.Goals as goal
 
 pub loop-at-init : goal.loop-at-init
-loop-at-init c =
-    let k = c.args.links.now in
-    subst (IsLastBelow k.homes.items (length k.homes.items) c.args.bucket) (sym (c.place-at.ensures ∙ get_or_read k.last.items c.args.bucket c.index.result.now c.requires.bucket c.index.ensures None)) (c.requires.linked.starts c.args.bucket c.requires.bucket)
+loop-at-init c = grind (arith, get_or_read, c.requires.bucket, c.index.ensures, c.requires.linked.starts)
 
 -- what stands before the place that was passed
 passed : (c : goal.After-place-at-in-Some) → IsLastBelow c.args.links.now.homes.items c.in-Some.other c.args.bucket c.place-at-in-Some.result

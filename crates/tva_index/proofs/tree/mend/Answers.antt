@@ -1,4 +1,4 @@
-use Rattle.tva_index.proofs.Common.{◌≡◌, ◌+◌, ◌*◌, ◌/◌, ◌∙◌, ℕ, List, get_or, length, drop, map, min, sym, ap, subst, arith, eqb-true, drop-set-lt, length-map, length-set, map-set, AreNodesBut}
+use Rattle.tva_index.proofs.Common.{◌≡◌, ◌+◌, ◌*◌, ◌/◌, ◌∙◌, ℕ, List, get_or, drop, map, min, sym, ap, subst, arith, eqb-true, drop-set-lt, length-map, length-set, map-set, AreNodesBut}
 use Rattle.tva_index.proofs.Nodes.{nodes_all, nodes-mend, number_at}
 use Rattle.tva_index.proofs.tree.mend.Goals as goal
 

@@ -39,60 +39,57 @@ send-outcome-requires-clause-ports c =
 
 pub returns-clause-fate : goal.returns-clause-fate
 returns-clause-fate c built last h logs packet late sound stood held =
-    let plan = c.args.plan.now in
     let p : PacketData = packet_of_fields c.packet.inside in
     let is : p ≡ packet = c.packet.view_is ∙ (c.deref_mut-packet.ensures.value ∙ same_packet (packet_in c.hand.inside.packet) c.in-Some.place.value packet (ap (λ z. packet_in z) c.in-Some.is) (c.hand.view_is ∙ held)) in
     let came : c.arrival_of-arrival.result ≡ arrival c.args.now.0 c.args.from p =
     c.arrival_of-arrival.ensures.value ∙ ap (arrival c.args.now.0 c.args.from) (sym c.packet.view_is) in
     let j : Judged = judged_with c.judge-class.result c.judge-class.new.carried in
-    let judged : j ≡ judge plan h (arrival c.args.now.0 c.args.from p) p.carried =
-    c.judge-class.ensures.answer h stood.charges ∙ ap (λ (z : Arrival). judge plan h z p.carried) came in
-    let went : c.send-outcome.result ≡ sent logs j.class (goes_on p j.carried) (way_to plan p.flow.dst) =
+    let judged : j ≡ judge c.args.plan.now h (arrival c.args.now.0 c.args.from p) p.carried =
+    c.judge-class.ensures.answer h stood.charges ∙ ap (λ (z : Arrival). judge c.args.plan.now h z p.carried) came in
+    let went : c.send-outcome.result ≡ sent logs j.class (goes_on p j.carried) (way_to c.args.plan.now p.flow.dst) =
     c.send-outcome.ensures.outcome logs (goes_on p j.carried) stood.links refl in
     let few : leb 32 p.hops ≡ false = subst (λ (z : PacketData). leb 32 z.hops ≡ false) (sym c.packet.view_is) (sym c.at_hop_limit.ensures ∙ c.if-at_hop_limit.false) in
     let fate : Fate = fate_of j c.send-outcome.result in
-    subst (λ (z : PacketData). fate ≡ (handle plan h logs c.args.now.0 c.args.from z).fate) is
-    (fate-forwarded plan h logs c.args.now.0 c.args.from p j c.send-outcome.result few judged went)
+    subst (λ (z : PacketData). fate ≡ (handle c.args.plan.now h logs c.args.now.0 c.args.from z).fate) is
+    (fate-forwarded c.args.plan.now h logs c.args.now.0 c.args.from p j c.send-outcome.result few judged went)
 
 pub returns-clause-stands : goal.returns-clause-stands
 returns-clause-stands c built last h logs packet late sound stood held =
-    let plan = c.args.plan.now in
     let p : PacketData = packet_of_fields c.packet.inside in
     let is : p ≡ packet = c.packet.view_is ∙ (c.deref_mut-packet.ensures.value ∙ same_packet (packet_in c.hand.inside.packet) c.in-Some.place.value packet (ap (λ z. packet_in z) c.in-Some.is) (c.hand.view_is ∙ held)) in
     let came : c.arrival_of-arrival.result ≡ arrival c.args.now.0 c.args.from p =
     c.arrival_of-arrival.ensures.value ∙ ap (arrival c.args.now.0 c.args.from) (sym c.packet.view_is) in
     let j : Judged = judged_with c.judge-class.result c.judge-class.new.carried in
-    let judged : j ≡ judge plan h (arrival c.args.now.0 c.args.from p) p.carried =
-    c.judge-class.ensures.answer h stood.charges ∙ ap (λ (z : Arrival). judge plan h z p.carried) came in
-    let keeps : Keeps plan (arrival c.args.now.0 c.args.from p) c.judge-class.result.charge (nonce_in p.carried) c.args.guard.now.cache c.judge-class.new.self.cache =
-    subst (λ (z : Arrival). Keeps plan z c.judge-class.result.charge (nonce_in p.carried) c.args.guard.now.cache c.judge-class.new.self.cache) came c.judge-class.ensures.keeps in
-    let links : StandForLogs plan.outgoing c.send-outcome.new.ports.items (logs with queued logs c.args.now.0 j.class (goes_on p j.carried) (way_to plan p.flow.dst)) =
+    let judged : j ≡ judge c.args.plan.now h (arrival c.args.now.0 c.args.from p) p.carried =
+    c.judge-class.ensures.answer h stood.charges ∙ ap (λ (z : Arrival). judge c.args.plan.now h z p.carried) came in
+    let keeps : Keeps c.args.plan.now (arrival c.args.now.0 c.args.from p) c.judge-class.result.charge (nonce_in p.carried) c.args.guard.now.cache c.judge-class.new.self.cache =
+    subst (λ (z : Arrival). Keeps c.args.plan.now z c.judge-class.result.charge (nonce_in p.carried) c.args.guard.now.cache c.judge-class.new.self.cache) came c.judge-class.ensures.keeps in
+    let links : StandForLogs c.args.plan.now.outgoing c.send-outcome.new.ports.items (logs with queued logs c.args.now.0 j.class (goes_on p j.carried) (way_to c.args.plan.now p.flow.dst)) =
     c.send-outcome.ensures.stands logs (goes_on p j.carried) stood.links refl in
-    let by : IsByPlan (router_data built plan c.args.now.0 c.judge-class.new.self.minter c.judge-class.new.self.cache c.send-outcome.new.ports.items) =
-    by-plan built plan c.args.now.0 c.judge-class.new.self c.args.ways.now c.send-outcome.new.ports.items (record {
+    let by : IsByPlan (router_data built c.args.plan.now c.args.now.0 c.judge-class.new.self.minter c.judge-class.new.self.cache c.send-outcome.new.ports.items) =
+    by-plan built c.args.plan.now c.args.now.0 c.judge-class.new.self c.args.ways.now c.send-outcome.new.ports.items (record {
       valid = sound.valid;
       in_force = sound.in_force;
-      guard = subst (λ (z : Arrival). IsGuard plan z.time.0 c.judge-class.new.self) came c.judge-class.ensures.guard;
+      guard = subst (λ (z : Arrival). IsGuard c.args.plan.now z.time.0 c.judge-class.new.self) came c.judge-class.ensures.guard;
       ways = sound.ways;
       ports = c.send-outcome.ensures.ports;
     }) in
     let few : leb 32 p.hops ≡ false = subst (λ (z : PacketData). leb 32 z.hops ≡ false) (sym c.packet.view_is) (sym c.at_hop_limit.ensures ∙ c.if-at_hop_limit.false) in
-    subst (λ (z : PacketData). StandsFor (router_data built plan c.args.now.0 c.judge-class.new.self.minter c.judge-class.new.self.cache c.send-outcome.new.ports.items)
-    (h ++ (handle plan h logs c.args.now.0 c.args.from z).charges) (logs with (handle plan h logs c.args.now.0 c.args.from z).queued)) is
-    (stands-forwarded built plan last c.args.now.0 c.args.guard.now.minter c.judge-class.new.self.minter c.args.guard.now.cache c.judge-class.new.self.cache c.args.ports.now.items c.send-outcome.new.ports.items
+    subst (λ (z : PacketData). StandsFor (router_data built c.args.plan.now c.args.now.0 c.judge-class.new.self.minter c.judge-class.new.self.cache c.send-outcome.new.ports.items)
+    (h ++ (handle c.args.plan.now h logs c.args.now.0 c.args.from z).charges) (logs with (handle c.args.plan.now h logs c.args.now.0 c.args.from z).queued)) is
+    (stands-forwarded built c.args.plan.now last c.args.now.0 c.args.guard.now.minter c.judge-class.new.self.minter c.args.guard.now.cache c.judge-class.new.self.cache c.args.ports.now.items c.send-outcome.new.ports.items
     h logs c.args.from p j few judged stood keeps links by)
 
 pub returns-clause-left : goal.returns-clause-left
 returns-clause-left c built last h logs packet late sound stood held =
-    let plan = c.args.plan.now in
     let p : PacketData = packet_of_fields c.packet.inside in
     let is : p ≡ packet = c.packet.view_is ∙ (c.deref_mut-packet.ensures.value ∙ same_packet (packet_in c.hand.inside.packet) c.in-Some.place.value packet (ap (λ z. packet_in z) c.in-Some.is) (c.hand.view_is ∙ held)) in
     let came : c.arrival_of-arrival.result ≡ arrival c.args.now.0 c.args.from p =
     c.arrival_of-arrival.ensures.value ∙ ap (arrival c.args.now.0 c.args.from) (sym c.packet.view_is) in
     let j : Judged = judged_with c.judge-class.result c.judge-class.new.carried in
-    let judged : j ≡ judge plan h (arrival c.args.now.0 c.args.from p) p.carried =
-    c.judge-class.ensures.answer h stood.charges ∙ ap (λ (z : Arrival). judge plan h z p.carried) came in
+    let judged : j ≡ judge c.args.plan.now h (arrival c.args.now.0 c.args.from p) p.carried =
+    c.judge-class.ensures.answer h stood.charges ∙ ap (λ (z : Arrival). judge c.args.plan.now h z p.carried) came in
     let few : leb 32 p.hops ≡ false = subst (λ (z : PacketData). leb 32 z.hops ≡ false) (sym c.packet.view_is) (sym c.at_hop_limit.ensures ∙ c.if-at_hop_limit.false) in
     c.send-outcome.ensures.left (goes_on p j.carried) refl
-    ∙ (ap (λ (z : PacketData). kept_after c.send-outcome.result z) (onward-forwarded plan h logs c.args.now.0 c.args.from p j few judged)
-    ∙ ap (λ (z : PacketData). kept_after c.send-outcome.result (handle plan h logs c.args.now.0 c.args.from z).onward) is)
+    ∙ (ap (λ (z : PacketData). kept_after c.send-outcome.result z) (onward-forwarded c.args.plan.now h logs c.args.now.0 c.args.from p j few judged)
+    ∙ ap (λ (z : PacketData). kept_after c.send-outcome.result (handle c.args.plan.now h logs c.args.now.0 c.args.from z).onward) is)

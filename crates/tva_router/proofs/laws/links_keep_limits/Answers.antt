@@ -12,8 +12,7 @@ returns-clause-past c v h logs link limits s f = (known v h logs link limits v.l
 
 pub returns-clause-rate : goal.returns-clause-rate
 returns-clause-rate c v h logs link limits s f before rest e =
-    let k = known v h logs link limits v.last s f (omega arith) in
-    rate_kept limits before (legal-front limits [] before rest (subst (λ (z : List Entry). IsLegal limits z) e k.legal))
+    rate_kept limits before (legal-front limits [] before rest (subst (λ (z : List Entry). IsLegal limits z) e (known v h logs link limits v.last s f (omega arith)).legal))
 
 pub returns-clause-rising : goal.returns-clause-rising
 returns-clause-rising c v h logs link limits s f before rest e =

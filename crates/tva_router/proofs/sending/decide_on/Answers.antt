@@ -19,16 +19,14 @@ index_mut-requires c =
 pub decide_into-requires-clause-time : goal.decide_into-requires-clause-time
 decide_into-requires-clause-time c =
     let place = place-in c.args.plan.now.outgoing c.as_slice.result.now c.args.link c.place_of.result (Some c.in-Some.place) c.as_slice.ensures c.place_of.ensures.place c.in-Some.is in
-    let at = is_at c.args.plan.now.outgoing c.in-Some.place c.args.link place in
     (port-get c.args.plan.now.outgoing c.args.now.0 c.args.ports.now.items c.in-Some.place c.index_mut.result.now (c.args.link, c.index_mut.result.now.limits)
-    c.requires.ports (at_within c.args.plan.now.outgoing c.in-Some.place c.args.link at) c.index_mut.ensures.value).1
+    c.requires.ports (at_within c.args.plan.now.outgoing c.in-Some.place c.args.link (is_at c.args.plan.now.outgoing c.in-Some.place c.args.link place)) c.index_mut.ensures.value).1
 
 pub decide_into-requires-clause-free : goal.decide_into-requires-clause-free
 decide_into-requires-clause-free c =
     let place = place-in c.args.plan.now.outgoing c.as_slice.result.now c.args.link c.place_of.result (Some c.in-Some.place) c.as_slice.ensures c.place_of.ensures.place c.in-Some.is in
-    let at = is_at c.args.plan.now.outgoing c.in-Some.place c.args.link place in
     subst (λ (n : ℕ). n ≤ c.args.now.0)
-    (free-at c.args.plan.now.outgoing c.args.ports.now.items c.in-Some.place c.args.link c.index_mut.result.now at
+    (free-at c.args.plan.now.outgoing c.args.ports.now.items c.in-Some.place c.args.link c.index_mut.result.now (is_at c.args.plan.now.outgoing c.in-Some.place c.args.link place)
     (ports-length c.args.plan.now.outgoing c.args.now.0 c.args.ports.now.items c.requires.ports) c.index_mut.ensures.value)
     c.requires.free
 

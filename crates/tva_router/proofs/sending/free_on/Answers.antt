@@ -31,7 +31,6 @@ returns-clause-value c =
 pub returns-clause-soon : goal.returns-clause-soon
 returns-clause-soon c last a =
     let place = place-in c.args.plan.now.outgoing c.as_slice.result.now c.args.link c.place_of.result (Some c.in-Some.place) c.as_slice.ensures c.place_of.ensures.place c.in-Some.is in
-    let at = is_at c.args.plan.now.outgoing c.in-Some.place c.args.link place in
     let got = port-get c.args.plan.now.outgoing last c.args.ports.now.items c.in-Some.place c.index.result.now (c.args.link, c.index.result.now.limits)
-    a (at_within c.args.plan.now.outgoing c.in-Some.place c.args.link at) c.index.ensures in
+    a (at_within c.args.plan.now.outgoing c.in-Some.place c.args.link (is_at c.args.plan.now.outgoing c.in-Some.place c.args.link place)) c.index.ensures in
     omega (arith, got.1, c.free_at.ensures.soon)

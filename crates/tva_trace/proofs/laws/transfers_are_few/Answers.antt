@@ -1,5 +1,5 @@
-use Rattle.tva_trace.proofs.FewFiles.{files_few}
+use Rattle.tva_trace.proofs.RowsValid.{rows_are_valid}
 use Rattle.tva_trace.proofs.laws.transfers_are_few.Goals as goal
 
 pub returns : goal.returns
-returns c = files_few
+returns c = λ config text rows are. (rows_are_valid config text rows are).files

@@ -1,8 +1,9 @@
-use Rattle.tva_trace.proofs.Common.{◌∙◌, sym, ap, subst, inl, inr, Bool, true, arith, ReadRecord, error_kind, with_flexible, counted}
+use Rattle.tva_trace.proofs.Common.{◌==◌, ◌∙◌, sym, ap, subst, inl, inr, Bool, true, arith, ReadRecord, error_kind, with_flexible, counted}
 use Rattle.csv.specs.Records.{fields_of}
 use Rattle.tva_trace.specs.Left.{row_where}
-use Rattle.tva_trace.proofs.FileCounts.{counts_none, find_room}
-use Rattle.tva_trace.proofs.Reading.{told, read-start, read-fault, read-on, read-nothing, read-short, read-valid, read-whole}
+use Rattle.tva_trace.proofs.FileCounts.{counts_none}
+use Rattle.tva_trace.proofs.Reading.{told, read-start, read-fault, read-on, read-nothing, read-short, read-whole}
+use Rattle.tva_trace.proofs.RowsValid.{room_said}
 use Rattle.tva_trace.proofs.read.read_rows.Goals as goal
 
 pub records-init : goal.records-init
@@ -22,8 +23,8 @@ shortage-requires c =
     let inv = c.records.invariant in
     rw c.kind.ensures (read-short c.args.config.now c.args.text.now c.records.reader c.read_byte_record.new.self c.records.number c.records.last (counted c.records.files) c.records.rows (error_kind c.in-Err.error) inv (c.in-Err.ensures.why inv.is_ready))
 
-pub returns-in-Err-said_into-clause-answer : goal.returns-in-Err-said_into-clause-answer
-returns-in-Err-said_into-clause-answer c =
+pub returns-in-Err-said_into : goal.returns-in-Err-said_into
+returns-in-Err-said_into c =
     let inv = c.records.invariant in
     let fields = fields_of c.read_byte_record.new.row in
     let read = subst (λ (b : Bool). ReadRecord told c.records.reader c.read_byte_record.new.self b fields) c.if-not-found.false (c.in-Ok.ensures.reads inv.untrimmed inv.is_ready) in
@@ -35,28 +36,26 @@ records-preserved c =
     let fields = fields_of c.read_byte_record.new.row in
     let read = subst (λ (b : Bool). ReadRecord told c.records.reader c.read_byte_record.new.self b fields) c.if-not-found.false (c.in-Ok.ensures.reads inv.untrimmed inv.is_ready) in
     read-on (row_where c.in-Ok-said_into.is_row c.said_into.new.said) c.args.config.now c.args.text.now c.records.reader c.read_byte_record.new.self c.records.number c.records.last c.in-Ok-put_row.time (counted c.records.files) (counted c.put_row.new.files) c.records.rows c.put_row.new.rows fields inv read
-    (inl (c.in-Ok.ensures.ready inv.untrimmed)) c.in-Ok-said_into.ensures.few (sym c.in-Ok-said_into.ensures.said) c.in-Ok-said_into.ensures.valid c.in-Ok-put_row.ensures.put c.in-Ok-put_row.ensures.counts c.in-Ok.ensures.flexible
+    (inl (c.in-Ok.ensures.ready inv.untrimmed)) c.in-Ok-said_into.ensures.few (sym c.in-Ok-said_into.ensures.said) c.in-Ok-put_row.ensures.put c.in-Ok-put_row.ensures.counts c.in-Ok.ensures.flexible
 
 pub put_row-requires : goal.put_row-requires
-put_row-requires c = find_room c.args.config.now c.records.last (counted c.records.files) (row_where c.in-Ok-said_into.is_row c.said_into.new.said) c.in-Ok-said_into.ensures.valid
+put_row-requires c =
+    let fields = fields_of c.read_byte_record.new.row in
+    room_said (c.records.number == 1) c.args.config.now c.records.number c.records.last (counted c.records.files) fields (row_where c.in-Ok-said_into.is_row c.said_into.new.said) (sym c.in-Ok-said_into.ensures.said)
 
 pub records-smaller : goal.records-smaller
 records-smaller c = omega (arith, c.in-Ok-said_into.ensures.few)
 
-pub returns-then-number-eq1-clause-answer : goal.returns-then-number-eq1-clause-answer
-returns-then-number-eq1-clause-answer c =
+pub returns-then-number-eq1 : goal.returns-then-number-eq1
+returns-then-number-eq1 c =
     let inv = c.records.invariant in
     let fields = fields_of c.read_byte_record.new.row in
     let read = subst (λ (b : Bool). ReadRecord told c.records.reader c.read_byte_record.new.self b fields) c.if-not-found.true (c.in-Ok.ensures.reads inv.untrimmed inv.is_ready) in
     read-nothing c.args.config.now c.args.text.now c.records.reader c.read_byte_record.new.self c.records.number c.records.last (counted c.records.files) c.records.rows fields inv read c.if-number-eq1.true
 
-pub returns-then-not-found-clause-answer : goal.returns-then-not-found-clause-answer
-returns-then-not-found-clause-answer c =
+pub returns-then-not-found : goal.returns-then-not-found
+returns-then-not-found c =
     let inv = c.records.invariant in
     let fields = fields_of c.read_byte_record.new.row in
     let read = subst (λ (b : Bool). ReadRecord told c.records.reader c.read_byte_record.new.self b fields) c.if-not-found.true (c.in-Ok.ensures.reads inv.untrimmed inv.is_ready) in
     read-whole c.args.config.now c.args.text.now c.records.reader c.read_byte_record.new.self c.records.number c.records.last (counted c.records.files) c.records.rows fields inv read c.if-number-eq1.false
-
-pub returns-then-not-found-clause-valid : goal.returns-then-not-found-clause-valid
-returns-then-not-found-clause-valid c =
-    read-valid c.args.config.now c.args.text.now c.records.reader c.records.number c.records.last (counted c.records.files) c.records.rows c.records.invariant

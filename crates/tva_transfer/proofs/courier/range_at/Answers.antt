@@ -7,14 +7,10 @@ returns-in_default c v files source k is = range_of-none files source c.args.upp
 
 pub returns-then-first-next : goal.returns-then-first-next
 returns-then-first-next c v files source k is =
-    let e = range_of-kept v files k source c.in-Data.transfer c.in-Data.first c.in-Data.bytes in
-    let kept = ap (λ o. unwrap_or o 0) (rw c.in-Data.is at is) in
-    let other = ne_eqb c.in-Data.first (next_kept v.nexts source c.in-Data.transfer) (λ h. c.if-first-next.true (h ∙ kept)) in
-    rw c.in-Data.is (sym (rw other at e))
+    let other = ne_eqb c.in-Data.first (next_kept v.nexts source c.in-Data.transfer) (λ h. c.if-first-next.true (h ∙ (ap (λ o. unwrap_or o 0) (rw c.in-Data.is at is)))) in
+    rw c.in-Data.is (sym (rw other at (range_of-kept v files k source c.in-Data.transfer c.in-Data.first c.in-Data.bytes)))
 
 pub returns : goal.returns
 returns c v files source k is =
-    let e = range_of-kept v files k source c.in-Data.transfer c.in-Data.first c.in-Data.bytes in
-    let kept = ap (λ o. unwrap_or o 0) (rw c.in-Data.is at is) in
-    let same = eq-eqb c.in-Data.first (next_kept v.nexts source c.in-Data.transfer) (c.if-first-next.false ∙ sym kept) in
-    rw c.in-Data.is (sym (rw same at e))
+    let same = eq-eqb c.in-Data.first (next_kept v.nexts source c.in-Data.transfer) (c.if-first-next.false ∙ sym (ap (λ o. unwrap_or o 0) (rw c.in-Data.is at is))) in
+    rw c.in-Data.is (sym (rw same at (range_of-kept v files k source c.in-Data.transfer c.in-Data.first c.in-Data.bytes)))

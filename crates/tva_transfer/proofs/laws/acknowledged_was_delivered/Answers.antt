@@ -1,8 +1,5 @@
 use Rattle.tva_transfer.proofs.Between.{is_delivered, prefix}
 use Rattle.tva_transfer.proofs.laws.acknowledged_was_delivered.Goals as goal
 
-pub returns-clause-delivered : goal.returns-clause-delivered
-returns-clause-delivered c = is_delivered
-
-pub returns-clause-at_each_place : goal.returns-clause-at_each_place
-returns-clause-at_each_place c = prefix
+pub returns : goal.returns
+returns c = record { delivered = is_delivered; at_each_place = prefix }

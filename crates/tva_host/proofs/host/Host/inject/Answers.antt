@@ -7,6 +7,5 @@ returns-clause-packet c calls s = c.number.ensures.packet (history_of c.args.sel
 
 pub returns-clause-stands : goal.returns-clause-stands
 returns-clause-stands c calls s =
-    let same = c.number.ensures.rest in
-    stands-push c.args.self.now c.number.new.self calls (Injected c.args.flow c.args.payload c.args.carried) s (ap (λ (v : HostData). v.plan) same) tt
-    (subst (λ (v : HostData). last_time 0 calls ≤ v.last) (sym same) s.past) (c.number.ensures.keeps (history_of c.args.self.now.plan calls) s.keeps)
+    stands-push c.args.self.now c.number.new.self calls (Injected c.args.flow c.args.payload c.args.carried) s (ap (λ (v : HostData). v.plan) c.number.ensures.rest) tt
+    (subst (λ (v : HostData). last_time 0 calls ≤ v.last) (sym c.number.ensures.rest) s.past) (c.number.ensures.keeps (history_of c.args.self.now.plan calls) s.keeps)

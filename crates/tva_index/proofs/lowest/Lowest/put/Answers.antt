@@ -1,4 +1,4 @@
-use Rattle.tva_index.proofs.Common.{◌≡◌, ◌+◌, ◌-◌, ◌*◌, ◌/◌, ◌<◌, ℕ, Bool, true, false, eqb, List, length, drop, map, set, sym, ap, ◌∙◌, subst, arith, eqb-true, drop-set-add, length-drop, length-map, map-set, AreNodesBut}
+use Rattle.tva_index.proofs.Common.{◌≡◌, ◌+◌, ◌-◌, ◌*◌, ◌/◌, ◌<◌, ℕ, Bool, false, eqb, List, length, drop, map, set, sym, ap, ◌∙◌, subst, arith, eqb-true, drop-set-add, length-drop, length-map, map-set, AreNodesBut}
 use Rattle.std.proofs.lemmas.Bool.Decides.{nat_tests}
 use Rattle.tva_index.proofs.Nodes.{least_at, least_written, least_kept, nodes-leaf, number_at}
 use Rattle.tva_index.proofs.lowest.Lowest.put.Goals as goal

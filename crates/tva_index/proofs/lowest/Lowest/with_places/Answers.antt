@@ -11,9 +11,7 @@ behind : (n : ℕ) (xs : List ℕ) → xs ≡ replicate (2 * n) 0 → drop n xs 
 behind n xs e = ap (drop n) e ∙ (drop-replicate n (2 * n) 0 ∙ ap (λ m. replicate m 0) (omega arith))
 
 first_of_zeros : (n : ℕ) → 0 < n → IsLeastPlace (replicate {A = ℕ} n 0) (Some 0)
-first_of_zeros n some =
-    let e : length (replicate {A = ℕ} n 0) ≡ n = length-replicate {A = ℕ} n 0 in
-    (omega (arith, some, e), λ q l. omega (arith, get_or-replicate {A = ℕ} n 0 0 0 some, get_or-replicate {A = ℕ} n q 0 0 (omega (arith, l, e))))
+first_of_zeros n some = grind (arith, length-replicate, get_or-replicate)
 
 pub returns : goal.returns
 returns g c =

@@ -3,11 +3,7 @@ use Rattle.tva_index.proofs.Ringed.{front_there, numbered_turn}
 use Rattle.tva_index.proofs.numbered_keys.NumberedKeys.turn.Goals as goal
 
 pub renumber-requires-clause-there : goal.renumber-requires-clause-there
-renumber-requires-clause-there c =
-    let i = c.self.inside in
-    let e : i.order.items ≡ c.in-Some.key ∷ c.pop_front.new.self.items = c.in-Some.ensures.items in
-    front_there i.places i.first c.in-Some.key c.pop_front.new.self.items (links_of i.tree.places.items) (entries_of i.tree.places.items) i.tree.free.items
-    (subst (λ (z : List ℕ). AreNumbered i.places i.first z (links_of i.tree.places.items) (entries_of i.tree.places.items) i.tree.free.items) e c.self.invariant.0)
+renumber-requires-clause-there c = grind (arith, front_there)
 
 pub invariant_of-self : goal.invariant_of-self
 invariant_of-self c =

@@ -9,15 +9,14 @@ returns-clause-keeps c =
 
 pub returns-clause-guard : goal.returns-clause-guard
 returns-clause-guard c =
-    let g = c.requires.may.guard in
     record {
-      master = g.master;
-      clock = g.clock;
-      key = c.admit_nonce.ensures.key ∙ g.key;
-      slots = c.admit_nonce.ensures.same.0 ∙ g.slots;
-      offset = c.admit_nonce.ensures.same.1 ∙ g.offset;
-      minted = g.minted;
+      master = c.requires.may.guard.master;
+      clock = c.requires.may.guard.clock;
+      key = c.admit_nonce.ensures.key ∙ c.requires.may.guard.key;
+      slots = c.admit_nonce.ensures.same.0 ∙ c.requires.may.guard.slots;
+      offset = c.admit_nonce.ensures.same.1 ∙ c.requires.may.guard.offset;
+      minted = c.requires.may.guard.minted;
       charged = omega (arith, c.admit_nonce.ensures.last);
-      known = c.admit_nonce.ensures.shown (is_good c.args.plan.now.master) g.known;
-      incoming = g.incoming;
+      known = c.admit_nonce.ensures.shown (is_good c.args.plan.now.master) c.requires.may.guard.known;
+      incoming = c.requires.may.guard.incoming;
     }

@@ -4,9 +4,8 @@ use Rattle.tva_router.proofs.guard.Guard.answer_to_shown.Goals as goal
 
 pub check_known-checked-requires-clause-known : goal.check_known-checked-requires-clause-known
 check_known-checked-requires-clause-known c =
-    let g = c.requires.may.guard in
-    subst (λ (m : List ℕ). IsGoodOrNone m c.known_at-known.result) (sym g.master) (known_good c.args.plan.now.master c.args.self.now.cache.entries c.place-at.result c.known_at-known.result
-    c.place-at.ensures.within c.known_at-known.ensures g.known)
+    subst (λ (m : List ℕ). IsGoodOrNone m c.known_at-known.result) (sym c.requires.may.guard.master) (known_good c.args.plan.now.master c.args.self.now.cache.entries c.place-at.result c.known_at-known.result
+    c.place-at.ensures.within c.known_at-known.ensures c.requires.may.guard.known)
 
 pub answer_to_checked-requires-clause-good : goal.answer_to_checked-requires-clause-good
 answer_to_checked-requires-clause-good c =

@@ -39,14 +39,12 @@ returns-clause-stands c h logs s =
 pub returns-clause-idle : goal.returns-clause-idle
 returns-clause-idle c h logs limits s f =
     let k = known c.args.self.now h logs c.args.link limits c.args.now.0 s f c.requires.time in
-    let e = returns-clause-decision c h logs limits s f in
-    idles limits (logs c.args.link) c.args.now.0 (decision_by c.decide_on.result c.decide_on.new.hand) k.valid k.legal e
+    idles limits (logs c.args.link) c.args.now.0 (decision_by c.decide_on.result c.decide_on.new.hand) k.valid k.legal (returns-clause-decision c h logs limits s f)
 
 pub returns-clause-alone : goal.returns-clause-alone
 returns-clause-alone c h logs limits u s f w =
     let k = known c.args.self.now h logs c.args.link limits c.args.now.0 s f c.requires.time in
-    let e = returns-clause-decision c h logs limits s f in
-    waits_alone limits (logs c.args.link) c.args.now.0 u k.valid k.legal (sym w ∙ e)
+    waits_alone limits (logs c.args.link) c.args.now.0 u k.valid k.legal (sym w ∙ (returns-clause-decision c h logs limits s f))
 
 pub returns-clause-wait : goal.returns-clause-wait
 returns-clause-wait c h logs limits u packet s f w n =
@@ -57,8 +55,7 @@ returns-clause-wait c h logs limits u packet s f w n =
 pub returns-clause-later : goal.returns-clause-later
 returns-clause-later c h logs limits u s f w =
     let k = known c.args.self.now h logs c.args.link limits c.args.now.0 s f c.requires.time in
-    let e = returns-clause-decision c h logs limits s f in
-    ends_later limits (logs c.args.link) c.args.now.0 u k.valid k.legal k.later (sym w ∙ e)
+    ends_later limits (logs c.args.link) c.args.now.0 u k.valid k.legal k.later (sym w ∙ (returns-clause-decision c h logs limits s f))
 
 pub returns-clause-steady : goal.returns-clause-steady
 returns-clause-steady c h logs limits until time s f n i low high =

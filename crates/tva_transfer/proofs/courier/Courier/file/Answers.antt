@@ -29,8 +29,7 @@ invariant_of-self-in-Err c =
 pub returns-in-Ok-clause-stands : goal.returns-in-Ok-clause-stands
 returns-in-Ok-clause-stands c calls acts s =
     let now = subst (λ (v : CourierData). StandsFor v calls acts) (sym c.self.view_is) s in
-    let ts = c.self.inside.transfers.items in
-    let items : c.push_reserved.new.self.items ≡ ts ++ begun c.args.dst c.args.size c.args.segment ∷ [] =
+    let items : c.push_reserved.new.self.items ≡ c.self.inside.transfers.items ++ begun c.args.dst c.args.size c.args.segment ∷ [] =
     c.push_reserved.ensures.items ∙ rw (c.in_ok-reserve.ensures.items, c.begun-transfer.ensures) refl in
     let segment : c.next_segment.result ≡ first_segment (known c.self.inside.host acts) c.args.dst c.args.size c.args.segment =
     c.next_segment.ensures.segment ∙ rw (c.len-place.ensures ∙ c.self.inside.transfers.ok.0 ∙ ap length now.files.transfers, c.begun-transfer.ensures) refl in

@@ -31,13 +31,12 @@ pub returns-clause-receipt : goal.returns-clause-receipt
 returns-clause-receipt c calls acts s =
     let files = known c.args.self.now.host acts in
     let roomy = stands_again c.args.self.now c.next_of.new.self calls acts c.next_of.ensures.rest c.next_of.ensures.knows s in
-    let here = subst (λ (v : CourierData). StandsFor v calls acts) (sym c.self.view_is) roomy in
     let same : c.self.inside.host ≡ c.args.self.now.host = ap (λ (v : CourierData). v.host) c.self.view_is ∙ c.next_of.ensures.rest in
     let answer : c.answer_to-answer.result ≡ answered c.args.self.now.host.plan.address files c.args.packet =
     c.answer_to-answer.ensures.answer files (c.next_of.ensures.knows files s.files)
     ∙ ap (λ (p : PacketData). answer_to files p.flow.src c.heard-upper.result) c.packet.view_is
     ∙ ap (λ (above : Upper). answer_to files c.args.packet.flow.src above) c.heard-upper.ensures.heard in
-    c.in_ok-receipt.ensures.receipt calls here.host
+    c.in_ok-receipt.ensures.receipt calls (subst (λ (v : CourierData). StandsFor v calls acts) (sym c.self.view_is) roomy).host
     ∙ ap (λ (h : host.HostData). receipt_of h.node h.plan (history_of h.plan calls) c.args.now.0 c.args.packet c.answer_to-answer.result) same
     ∙ ap (λ (above : Upper). receipt_of c.args.self.now.host.node c.args.self.now.host.plan (history_of c.args.self.now.host.plan calls) c.args.now.0 c.args.packet above) answer
 

@@ -1,4 +1,4 @@
--- Kit: what every record keeps that says a row, before the bytes of a raw shim are taken for what they are.
+-- What every record keeps that says a row, before the bytes of a raw shim are taken for what they are.
 use Rattle.std.specs.Prelude.{◌≡◌, ◌≤◌, ◌<◌, ℕ, Bool, true, length}
 use Rattle.tva_shim.specs.Shims.{IsShim}
 use Rattle.tva_plan.specs.declared.config.Config.{Config}
