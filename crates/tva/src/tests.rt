@@ -1,11 +1,12 @@
 // What no script shows of the program: that it answers over files and a sink in memory, which files it loads and
-// which nodes it tells the gate of, that the parts of a network run at once, and what comes of a replay where its
-// own files and its sink want memory too. Whole replays, words and texts are shown by `tests/replays` and
+// which nodes it tells the gate of, that the parts of a network run at once, what comes of a replay where its
+// own files and its sink want memory too, and what an audit answers of rows. Whole replays, words and texts are shown by `tests/replays` and
 // `tests/commands`, and damage at each place by `tests/damage`.
 use std::alloc::AllocError;
 use std::test::Fail;
 use tva_outside::{MemoryShelf, MemorySink, OpenGate};
 
+mod audits;
 mod damage;
 mod gates;
 

@@ -1,5 +1,5 @@
-//! Tests of nodes, networks and audits: what no run of the program shows. They stand in a crate of their own,
-//! since a crate is proved once more with its tests.
+//! Tests of nodes and networks, of what no run of the program shows. They stand in a crate of their own, since a crate
+//! is proved once more with its tests.
 #![tactic(auto)]
 
 #[cfg(test)]

@@ -93,15 +93,12 @@ const ROWS: [&str; 3] = [
 ];
 
 // So often they come: each window has more events than are worked on one thread.
-const EACH: u64 = 80;
+const EACH: usize = 80;
 
 fn four_trace(alloc: Global) -> Result<String, AllocError> {
-    let mut text = String::new(alloc);
-    text.push_str("time,node,kind,src,dst,payload,shim\n")?;
+    let mut text = String::from_str(alloc, "time,node,kind,src,dst,payload,shim\n")?;
     for rows in &ROWS {
-        for _ in 0..EACH {
-            text.push_str(*rows)?;
-        }
+        text.push_str(rows.repeat(alloc, EACH)?.as_str())?;
     }
     Ok(text)
 }

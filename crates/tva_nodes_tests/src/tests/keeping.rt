@@ -14,8 +14,8 @@ const FILES: &str =
 
 // How often nodes were told.
 #[derive(Drop)]
-pub struct Starts {
-    pub all: AtomicU64,
+struct Starts {
+    all: AtomicU64,
 }
 
 impl Gate for Starts {

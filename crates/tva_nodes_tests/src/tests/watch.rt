@@ -16,7 +16,7 @@ const PLAN: &str =
 
 const TRIES: u64 = 100;
 
-const MANY: u64 = 4_000;
+const MANY: usize = 4_000;
 
 // When node 0 was told, in microseconds from a start.
 #[derive(Drop)]
@@ -51,9 +51,8 @@ fn trace(alloc: Global, first: &str) -> Result<String, AllocError> {
     let mut text = String::new(alloc);
     text.push_str("time,node,kind,src,dst,payload,shim\n")?;
     text.push_str(first)?;
-    for _ in 0..MANY {
-        text.push_str("1000000000,R1,list,10.0.0.1,10.0.1.1,0,00000000000a/1/10/0/R1@1\n")?;
-    }
+    let many = "1000000000,R1,list,10.0.0.1,10.0.1.1,0,00000000000a/1/10/0/R1@1\n";
+    text.push_str(many.repeat(alloc, MANY)?.as_str())?;
     Ok(text)
 }
 
@@ -62,7 +61,7 @@ fn is_told_first<R: Threads + Clock + Sync>(
     rt: &R,
     alloc: Global,
     net: &mut Net,
-    wanted: u64,
+    wanted: usize,
 ) -> Result<bool, Fail> {
     let watch = Watch {
         clock: rt,
@@ -72,7 +71,7 @@ fn is_told_first<R: Threads + Clock + Sync>(
     let answer = net.step_window(rt, alloc, &watch);
     let end = since(rt, watch.start);
     match answer {
-        Ok(Window::Events(events)) if events.len() as u64 == wanted => {
+        Ok(Window::Events(events)) if events.len() == wanted => {
             Ok(watch.told.load(Ordering::SeqCst) < end / 2)
         }
         _ => Err(Fail::from("another window")),

@@ -3,7 +3,6 @@
 mod differences;
 mod lines;
 mod plans;
-mod rows;
 
 use std::alloc::Global;
 use std::test::Fail;
