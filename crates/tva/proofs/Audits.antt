@@ -1,5 +1,5 @@
 -- What an audit answers, from what it found.
-use Rattle.tva.proofs.Common.{◌≡◌, ◌⊎◌, inl, inr, ℕ, List, Err, Ok, refl, sym, ◌∙◌, subst, None, Some, HeldByName, Load, Config, first_bad, Row, AreRows, audit, IsText, audits, comes_to, file_at, plan_at, refuses, trace_at, Answers, Just, OfCommand, AgreeSince, EndsAudited, IsAudited, IsAuditText, IsFound, IsNotFound, IsWritten, Done, WriteFault, EventLimit, OutOfMemory, BadReport}
+use Rattle.tva.proofs.Common.{◌≡◌, ◌⊎◌, inl, inr, ℕ, List, Err, Ok, refl, sym, subst, None, Some, HeldByName, Load, Config, first_bad, Row, AreRows, audit, IsText, audits, comes_to, file_at, plan_at, refuses, trace_at, Answers, Just, OfCommand, AgreeSince, EndsAudited, IsAudited, IsAuditText, IsFound, IsNotFound, IsWritten, Done, WriteFault, EventLimit, OutOfMemory, BadReport}
 use Rattle.tva.specs.declared.status.Status as status
 use Rattle.tva.specs.declared.status.Status.TheVariants.{Found as Differs}
 use Rattle.tva.proofs.Replays.{answers_of_just, answers_of_missing}

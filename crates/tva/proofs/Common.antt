@@ -5,7 +5,7 @@ pub use Rattle.std.proofs.lemmas.Bool.{cases_Bool, cases_lt}
 pub use Rattle.std.proofs.lemmas.Bool.Decides.{nat_tests}
 pub use Rattle.std.proofs.lemmas.Grind.{flat_map-append}
 pub use Rattle.std.proofs.lemmas.List.{append_cancel_left, take-append-drop}
-pub use Rattle.std.specs.List.{AllByRecursion, list_all, list_any, join_with_byte, flat_map}
+pub use Rattle.std.specs.List.{list_all, list_any, join_with_byte, flat_map}
 pub use Rattle.std.specs.Option.{option_map, option_map_or}
 pub use Rattle.std.specs.Prelude.{IsSomeAnd, nat_lt}
 pub use Rattle.std.specs.declared.option.Option.{Option}

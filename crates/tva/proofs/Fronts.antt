@@ -1,7 +1,6 @@
 -- On every status, what is written is the first bytes of a text that is to be written.
-use Rattle.tva.proofs.Common.{◌≡◌, ◌⊎◌, ℕ, List, IfSome, None, Some, ap, inl, inr, refl, subst, IsSomeAnd, HeldByName, option_map, Option, Load, Command, command_of, OfWanted, wanted, AgreeSince, Expected, comes_to, refuses, Answers, OfCommand, WroteAll, WrotePart, Done, Usage, ReadFault, WriteFault, TooLarge, BadConfig, BadTrace, EventLimit, OutOfMemory, BadReport}
+use Rattle.tva.proofs.Common.{◌≡◌, ◌⊎◌, ℕ, List, IfSome, None, Some, ap, inl, inr, refl, subst, IsSomeAnd, HeldByName, option_map, Option, Load, Command, command_of, OfWanted, wanted, AgreeSince, Expected, comes_to, refuses, Answers, OfCommand, WroteAll, WrotePart, Done, Usage, WriteFault, EventLimit, OutOfMemory}
 use Rattle.tva.specs.declared.status.Status as status
-use Rattle.tva.specs.declared.status.Status.TheVariants.{Found as Differs}
 use Rattle.tva.proofs.Replays.{cut_of_whole}
 use Rattle.tva.proofs.Texts.{begun_of_text}
 
@@ -13,15 +12,10 @@ pub part_of_answer : (first last : List Load) (command : Command) (w : Type 0) (
     → OfCommand first last command (WrotePart old new)
 part_of_answer first last command w old new Done a = λ files agree. part_of_all old new (comes_to command files) (a files agree)
 part_of_answer first last command w old new Usage a = absurd a
-part_of_answer first last command w old new (Differs f) a = λ files agree. inl a.1
-part_of_answer first last command w old new (BadReport k) a = λ files agree. inl a.1
-part_of_answer first last command w old new ReadFault a = λ files agree. inl a.1
 part_of_answer first last command w old new WriteFault a = λ files agree. inr (a.1 files agree)
-part_of_answer first last command w old new (TooLarge k) a = λ files agree. inl a.1
-part_of_answer first last command w old new (BadConfig f) a = λ files agree. inl a.1
-part_of_answer first last command w old new (BadTrace f) a = λ files agree. inl a.1
 part_of_answer first last command w old new (EventLimit m) a = λ files agree. (a files agree).1
 part_of_answer first last command w old new OutOfMemory a = a
+part_of_answer first last command w old new _ a = λ files agree. inl a.1
 
 -- what holds of a command holds of the words that are it
 pub of_words : (first last : List Load) (words : List (List ℕ)) (command : Command) (holds : Expected → Type 0) → Some command ≡ command_of words

@@ -1,9 +1,11 @@
 -- What was given and taken since, piece by piece.
-use Rattle.tva.proofs.Common.{◌≡◌, inl, inr, ℕ, List, [], ◌∷◌, ◌++◌, All, refl, sym, ap, ◌∙◌, subst, append_assoc, append-nil, None, Some, IfSome, suc, IsSomeAnd, AllByRecursion, append_cancel_left, Option, HeldByName, Agrees, Holds, Load, AgreeSince, IsTold, WasTaken, WereAsked, WasAsked, IsRefusal, ReadFault}
+use Rattle.tva.proofs.Common.{◌≡◌, inl, inr, ℕ, List, [], ◌∷◌, ◌++◌, All, refl, sym, ap, ◌∙◌, subst, append_assoc, append-nil, None, Some, IfSome, suc, IsSomeAnd, append_cancel_left, Option, HeldByName, Agrees, Holds, Load, AgreeSince, IsTold, WasTaken, WereAsked, WasAsked, IsRefusal, ReadFault}
 use Rattle.std.proofs.lemmas.List.Elements.{All-append, All-from_recursion, recursion_from_All}
 use Rattle.std.specs.Io.KnownBytes.{append_known}
 use Rattle.tva_outside.proofs.Written.{append_known-append_known}
 use Rattle.tva.specs.declared.status.Status as status
+use Rattle.tva_base.proofs.Each.{each-left}
+use Rattle.tva_audit.proofs.Worked.{All-right}
 
 -- ## what was taken
 
@@ -42,19 +44,8 @@ asked_one old new name names asked = asked_more old new new name names asked (as
 
 -- ## files that agree
 
-each-left : {X : Type 0} (P : X → Type 0) (xs ys : List X) → AllByRecursion P (xs ++ ys) → AllByRecursion P xs
-each-left P [] ys h = tt
-each-left P (x ∷ xs) ys h = (h.0, each-left P xs ys h.1)
-
-each-right : {X : Type 0} (P : X → Type 0) (xs ys : List X) → AllByRecursion P (xs ++ ys) → AllByRecursion P ys
-each-right P [] ys h = h
-each-right P (x ∷ xs) ys h = each-right P xs ys h.1
-
 All-left : {X : Type 0} (P : X → Type 0) (xs ys : List X) → All P (xs ++ ys) → All P xs
 All-left P xs ys h = All-from_recursion P xs (each-left P xs ys (recursion_from_All P (xs ++ ys) h))
-
-pub All-right : {X : Type 0} (P : X → Type 0) (xs ys : List X) → All P (xs ++ ys) → All P ys
-All-right P xs ys h = All-from_recursion P ys (each-right P xs ys (recursion_from_All P (xs ++ ys) h))
 
 -- files agree with a load
 abbrev pub Fits : HeldByName → Load → Type 0

@@ -1,5 +1,5 @@
 -- The report of a run as lines: there is one, a line feed ends it, and a report of the same lines is the same.
-use Rattle.tva.proofs.Common.{◌≡◌, ℕ, ◌+◌, Bool, true, false, List, [], ◌∷◌, ◌++◌, refl, sym, ap, ◌∙◌, append_assoc, inl, inr, None, Some, cases_Bool, list_all, list_any, Config, IsConfig, first_bad, is_feed, pieces, report_lines, text_of, first_difference, same_of_none, Row, summary_of, text_of_totals, lines_of, report_of, totals_of, HasReport, are_delayed, one_list}
+use Rattle.tva.proofs.Common.{◌≡◌, ℕ, ◌+◌, true, List, [], ◌∷◌, ◌++◌, refl, sym, ap, ◌∙◌, append_assoc, inl, inr, None, Some, cases_Bool, list_all, list_any, Config, IsConfig, first_bad, is_feed, pieces, report_lines, text_of, first_difference, same_of_none, Row, text_of_totals, lines_of, report_of, totals_of, HasReport, are_delayed, one_list}
 use Rattle.tva_report.proofs.LinesBack.{good_back, text_back}
 
 pub some_is_there : {A : Type 0} (x : A) → Some x ≡ None → ⊥

@@ -1,15 +1,13 @@
 -- What comes of writing a text: its answer, of each command that comes to one.
-use Rattle.tva.proofs.Common.{◌≡◌, ℕ, List, ap, inr, refl, ◌∙◌, HeldByName, Load, Command, shim, Expected, Sought, comes_to, followed, plan_at, writes, shows, replays, audits, refuses, IsText, Answers, IsBegunText, Just, OfCommand, Done, WriteFault, OutOfMemory, IsFound, IsNotFound, IsWritten, Config}
+use Rattle.tva.proofs.Common.{◌≡◌, ℕ, List, ap, inr, refl, ◌∙◌, HeldByName, Load, Command, shim, Expected, Sought, comes_to, followed, plan_at, writes, shows, replays, refuses, IsText, Answers, IsBegunText, Just, OfCommand, Done, WriteFault, OutOfMemory, IsFound, IsWritten, Config}
 use Rattle.tva.specs.declared.status.Status as status
-use Rattle.tva.proofs.Replays.{answers_of_just, answers_of_missing}
+use Rattle.tva.proofs.Replays.{answers_of_just}
 
 -- a text that is to be written is one that is begun
 pub begun_of_text : (x : Expected) (text : List ℕ) → IsText x text → IsBegunText x text
-begun_of_text (writes whole) text is = is
-begun_of_text (shows bytes) text is = is
 begun_of_text (replays plan trace) text (rows, are, has) = (rows, are, has.report)
-begun_of_text (audits plan trace report) text is = is
 begun_of_text (refuses r) text is = absurd is
+begun_of_text _ text is = is
 
 -- what writing a text answers
 pub answers_of_written : (x : Expected) (text : List ℕ) → IsText x text → (w : Type 0) (old new : List ℕ) (s : status.Status) → IsWritten old new w text s → Answers (Just x) w old new s
@@ -21,11 +19,6 @@ answers_of_written x text is w old new _ a = absurd a
 -- a command that comes to a text of its plan
 module _ (first last : List Load) (config : List ℕ) (command : Command) (text : Config → List ℕ) (w : Type 0) (old : List ℕ)
     (comes : (files : HeldByName) → comes_to command files ≡ followed (plan_at config files) (λ plan. writes (text plan))) where
-  pub text_no_plan : (s : status.Status) → IsNotFound first last (plan_at config) s → Answers (OfCommand first last command) w old old s
-  text_no_plan s a =
-      answers_of_missing first first last (plan_at config) command w old s (λ files agree. agree)
-      (λ files r agree e. comes files ∙ ap (λ (p : Sought Config). followed p (λ plan. writes (text plan))) e) a
-
   pub text_found : (plan : Config) (bytes new : List ℕ) (s : status.Status) → IsFound first last (plan_at config) plan → bytes ≡ text plan → IsWritten old new w bytes s
       → Answers (OfCommand first last command) w old new s
   text_found plan bytes new s found same a =

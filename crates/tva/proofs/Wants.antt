@@ -1,5 +1,5 @@
 -- What holds of all that words can come to: its runs keep their promises, and it is to end in just one way.
-use Rattle.tva.proofs.Common.{◌≡◌, ℕ, ◌+◌, All, Bool, true, false, cond, List, length, Result, Ok, Err, Some, None, IfSome, refl, sym, ◌∙◌, ap, subst, inl, inr, arith, Option, nat_lt, option_map, option_map_or, HeldByName, bytes_at, Config, IsConfig, Row, SaidRow, rows_of, AreRows, rows_are_one, cases_lt, Event, AreEventsTo, report_of, are_delayed, no_more_events, traced_events, Finding, first_difference, first_bad, report_lines, none_of_same, RouterSum, IsDifference, generated, check_line, Command, command_of, replay, check, shim, gen, audit, Expected, writes, shows, replays, audits, refuses, Sought, followed, ◌>>=◌, within_limit, plan_at, trace_at, report_at, comes_to, Ends, EndsAudit, EndsReplay, HasReport, IsPastLimit, IsWithinLimit, wanted, HasOneEnd, Done, Usage, ReadFault, WriteFault, TooLarge, BadConfig, BadTrace, EventLimit, OutOfMemory, BadReport}
+use Rattle.tva.proofs.Common.{◌≡◌, ℕ, ◌+◌, All, Bool, true, false, cond, List, length, Result, Ok, Err, Some, None, IfSome, refl, sym, ◌∙◌, ap, subst, inl, inr, arith, Option, nat_lt, option_map, option_map_or, HeldByName, bytes_at, Config, IsConfig, Row, SaidRow, rows_of, AreRows, rows_are_one, cases_lt, Event, AreEventsTo, report_of, are_delayed, no_more_events, traced_events, Finding, first_difference, first_bad, report_lines, none_of_same, RouterSum, IsDifference, generated, check_line, Command, command_of, replay, check, shim, gen, audit, Expected, writes, shows, replays, audits, refuses, Sought, followed, ◌>>=◌, within_limit, plan_at, trace_at, report_at, comes_to, Ends, EndsAudit, EndsReplay, HasReport, IsPastLimit, IsWithinLimit, wanted, HasOneEnd, Done, ReadFault, TooLarge, BadConfig, BadTrace, EventLimit, BadReport}
 use Rattle.std.specs.Result.{result_map_both}
 use Rattle.tva_config_entries.specs.declared.faults.ConfigFault.{ConfigFault}
 use Rattle.tva_config.specs.Read.{read_of}
@@ -7,6 +7,7 @@ use Rattle.tva_config.proofs.ReadValid.{read_valid}
 use Rattle.tva_trace.specs.declared.rows.TraceFault.{TraceFault}
 use Rattle.tva_trace.proofs.RowsThere.{rows_there}
 use Rattle.tva_trace.proofs.RowsValid.{rows_are_valid}
+use Rattle.tva_rows.specs.Valid.{AreTraceRows}
 use Rattle.tva_laws.proofs.Runs.{run_keeps}
 use Rattle.tva_laws.proofs.Given.{given}
 use Rattle.tva_laws.proofs.Steady.{honest_regular}
@@ -101,58 +102,31 @@ module _ (P : Expected → Type 0) (holds : HoldsOfEach P) where
   pub of_wanted : (words : List (List ℕ)) (files : HeldByName) → IfSome (wanted files words) P
   of_wanted words files = of_command files (command_of words)
 
--- ## promises
+-- ## promises, honest senders and files
 
-kept_of_each : HoldsOfEach (OfRows EachKeepsPromises)
-kept_of_each = record {
+-- what holds of the rows of each trace under a valid plan
+of_rows : (E : Config → List Row → Type 0) → ((plan : Config) (rows : List Row) → IsConfig plan → AreTraceRows plan rows → E plan rows) → HoldsOfEach (OfRows E)
+of_rows E h = record {
   of_text = λ text. tt;
   of_shim = λ bytes. tt;
-  of_trace =
-      λ plan trace said valid read rows are until logs run node site is. run_keeps plan rows until logs valid (rows_are_valid plan trace rows are) run node site is;
-  of_audit =
-      λ plan trace said report valid read good rows are until logs run node site is. run_keeps plan rows until logs valid (rows_are_valid plan trace rows are) run node site is;
+  of_trace = λ plan trace said valid read rows are. h plan rows valid (rows_are_valid plan trace rows are);
+  of_audit = λ plan trace said report valid read good rows are. h plan rows valid (rows_are_valid plan trace rows are);
   of_refusal = λ r. tt;
 }
 
 -- every run of a trace that is to be replayed keeps its promises
 pub kept_of_wanted : (words : List (List ℕ)) (files : HeldByName) → IfSome (wanted files words) (OfRows EachKeepsPromises)
-kept_of_wanted = of_wanted (OfRows EachKeepsPromises) kept_of_each
-
--- ## honest senders
-
-honest_of_each : HoldsOfEach (OfRows EachTakesHonest)
-honest_of_each = record {
-  of_text = λ text. tt;
-  of_shim = λ bytes. tt;
-  of_trace =
-      λ plan trace said valid read rows are until logs run.
-      honest_regular plan rows until logs valid (given plan rows until logs valid (rows_are_valid plan trace rows are) run) run;
-  of_audit =
-      λ plan trace said report valid read good rows are until logs run.
-      honest_regular plan rows until logs valid (given plan rows until logs valid (rows_are_valid plan trace rows are) run) run;
-  of_refusal = λ r. tt;
-}
+kept_of_wanted = of_wanted (OfRows EachKeepsPromises) (of_rows EachKeepsPromises (λ plan rows valid are until logs run. run_keeps plan rows until logs valid are run))
 
 -- and takes what honest senders show
 pub honest_of_wanted : (words : List (List ℕ)) (files : HeldByName) → IfSome (wanted files words) (OfRows EachTakesHonest)
-honest_of_wanted = of_wanted (OfRows EachTakesHonest) honest_of_each
-
--- ## files
-
-files_of_each : HoldsOfEach (OfRows EachKeepsFiles)
-files_of_each = record {
-  of_text = λ text. tt;
-  of_shim = λ bytes. tt;
-  of_trace =
-      λ plan trace said valid read rows are until logs run. keeps plan rows until logs valid (rows_are_valid plan trace rows are).files (rows_have plan rows (rows_are_valid plan trace rows are)) run;
-  of_audit =
-      λ plan trace said report valid read good rows are until logs run. keeps plan rows until logs valid (rows_are_valid plan trace rows are).files (rows_have plan rows (rows_are_valid plan trace rows are)) run;
-  of_refusal = λ r. tt;
-}
+honest_of_wanted = of_wanted (OfRows EachTakesHonest)
+    (of_rows EachTakesHonest (λ plan rows valid are until logs run. honest_regular plan rows until logs valid (given plan rows until logs valid are run) run))
 
 -- and its files
 pub files_of_wanted : (words : List (List ℕ)) (files : HeldByName) → IfSome (wanted files words) (OfRows EachKeepsFiles)
-files_of_wanted = of_wanted (OfRows EachKeepsFiles) files_of_each
+files_of_wanted = of_wanted (OfRows EachKeepsFiles)
+    (of_rows EachKeepsFiles (λ plan rows valid are until logs run. keeps plan rows until logs valid are.files (rows_have plan rows are) run))
 
 -- ## sums
 
@@ -187,29 +161,13 @@ module _ (plan : Config) (trace : List ℕ) (rows : List Row) (valid : IsConfig 
 
   within_ends : (other : status.Status) → IsWithinLimit plan rows → EndsReplay plan rows other → other ≡ Done
   within_ends Done w o = refl
-  within_ends Usage w o = absurd o
-  within_ends (Differs f) w o = absurd o
-  within_ends (BadReport k) w o = absurd o
-  within_ends ReadFault w o = absurd o
-  within_ends WriteFault w o = absurd o
-  within_ends (TooLarge k) w o = absurd o
-  within_ends (BadConfig fault) w o = absurd o
-  within_ends (BadTrace fault) w o = absurd o
   within_ends (EventLimit m) w o = absurd (apart plan rows valid w o.1)
-  within_ends OutOfMemory w o = absurd o
+  within_ends _ w o = absurd o
 
   past_ends : (other : status.Status) → IsPastLimit plan rows → EndsReplay plan rows other → other ≡ EventLimit plan.max_events
   past_ends Done p o = absurd (apart plan rows valid o p)
-  past_ends Usage p o = absurd o
-  past_ends (Differs f) p o = absurd o
-  past_ends (BadReport k) p o = absurd o
-  past_ends ReadFault p o = absurd o
-  past_ends WriteFault p o = absurd o
-  past_ends (TooLarge k) p o = absurd o
-  past_ends (BadConfig fault) p o = absurd o
-  past_ends (BadTrace fault) p o = absurd o
   past_ends (EventLimit m) p o = ap EventLimit o.0
-  past_ends OutOfMemory p o = absurd o
+  past_ends _ p o = absurd o
 
   -- how many events the whole run has decides it
   one_end : (told : List Event) → AreEventsTo plan rows (plan.horizon.0 + 1) told → HasOneEnd (replays plan trace)
@@ -231,15 +189,8 @@ module _ (plan : Config) (trace : List ℕ) (rows : List Row) (valid : IsConfig 
     past_audit : (other : status.Status) → IsPastLimit plan rows → EndsAudit plan rows report other → other ≡ EventLimit plan.max_events
     past_audit Done p o = absurd (apart plan rows valid (report, o) p)
     past_audit (Differs f) p o = absurd (apart plan rows valid (o.text, o.has) p)
-    past_audit Usage p o = absurd o
-    past_audit ReadFault p o = absurd o
-    past_audit WriteFault p o = absurd o
-    past_audit (TooLarge k) p o = absurd o
-    past_audit (BadConfig fault) p o = absurd o
-    past_audit (BadTrace fault) p o = absurd o
     past_audit (EventLimit m) p o = ap EventLimit o.0
-    past_audit OutOfMemory p o = absurd o
-    past_audit (BadReport k) p o = absurd o
+    past_audit _ p o = absurd o
 
     -- the report of the run decides the others
     of_text_of : (text : List ℕ) (f : Finding) → HasReport plan rows text → IsDifference plan rows report f
@@ -251,15 +202,8 @@ module _ (plan : Config) (trace : List ℕ) (rows : List Row) (valid : IsConfig 
         → first_difference (report_lines text) (report_lines report) ≡ None → EndsAudit plan rows report other → other ≡ Done
     same_audit text Done has same o = refl
     same_audit text (Differs f) has same o = absurd (some_is_there f (sym (of_text_of text f has o) ∙ same))
-    same_audit text Usage has same o = absurd o
-    same_audit text ReadFault has same o = absurd o
-    same_audit text WriteFault has same o = absurd o
-    same_audit text (TooLarge k) has same o = absurd o
-    same_audit text (BadConfig fault) has same o = absurd o
-    same_audit text (BadTrace fault) has same o = absurd o
     same_audit text (EventLimit m) has same o = absurd (apart plan rows valid (text, has) o.1)
-    same_audit text OutOfMemory has same o = absurd o
-    same_audit text (BadReport k) has same o = absurd o
+    same_audit text _ has same o = absurd o
 
     differs_audit : (text : List ℕ) (f : Finding) (other : status.Status) → HasReport plan rows text
         → first_difference (report_lines text) (report_lines report) ≡ Some f → EndsAudit plan rows report other → other ≡ Differs f
@@ -269,15 +213,8 @@ module _ (plan : Config) (trace : List ℕ) (rows : List Row) (valid : IsConfig 
         subst (λ (t : List ℕ). first_difference (report_lines t) (report_lines report) ≡ Some f) same differs in
         absurd (some_is_there f (sym found ∙ none_of_same 1 (report_lines report)))
     differs_audit text f (Differs g) has differs o = ap Differs (some_same (sym (of_text_of text g has o) ∙ differs))
-    differs_audit text f Usage has differs o = absurd o
-    differs_audit text f ReadFault has differs o = absurd o
-    differs_audit text f WriteFault has differs o = absurd o
-    differs_audit text f (TooLarge k) has differs o = absurd o
-    differs_audit text f (BadConfig fault) has differs o = absurd o
-    differs_audit text f (BadTrace fault) has differs o = absurd o
     differs_audit text f (EventLimit m) has differs o = absurd (apart plan rows valid (text, has) o.1)
-    differs_audit text f OutOfMemory has differs o = absurd o
-    differs_audit text f (BadReport k) has differs o = absurd o
+    differs_audit text f _ has differs o = absurd o
 
     compared_end : (text : List ℕ) → HasReport plan rows text → (d : Option Finding)
         → first_difference (report_lines text) (report_lines report) ≡ d → HasOneEnd (audits plan trace report)

@@ -1,5 +1,5 @@
 -- The replay of rows, window by window.
-use Rattle.tva.proofs.Common.{◌≡◌, ◌≤◌, ℕ, List, ◌++◌, length, Result, Ok, Err, refl, sym, ap, ◌∙◌, subst, inl, inr, take-length, flat_map-append, Rose, Event, Config, Row, line_of, summary_of, IsReport, lines_of, report_of, totals_of, HasReport, IsBegun, NetError, IsNext, IsReplayed, IsWritten, ended_by, Done, WriteFault, EventLimit, OutOfMemory}
+use Rattle.tva.proofs.Common.{◌≡◌, ◌≤◌, ℕ, List, ◌++◌, length, Result, Ok, Err, refl, sym, ap, ◌∙◌, subst, inl, inr, take-length, flat_map-append, Rose, Event, Config, Row, line_of, summary_of, IsReport, lines_of, report_of, totals_of, HasReport, IsBegun, NetError, IsNext, IsReplayed, IsWritten, ended_by, Done, WriteFault, OutOfMemory}
 use Rattle.tva_base.specs.declared.event.Totals.{Totals}
 use Rattle.tva_net.specs.Nets.{NetState}
 use Rattle.tva_net.specs.declared.kinds.NetError.TheVariants as error

@@ -9,14 +9,7 @@ use Rattle.tva_router.specs.Boots.{charges_of_boot}
 use Rattle.tva_laws.specs.Promises.{KeepsPromises}
 use Rattle.tva_report.specs.declared.pairs.Pair.{Pair}
 use Rattle.tva_report.specs.Pairs.{firsts}
-
-each_filter : {X : Type 0} (P : X → Type 0) (p : X → Bool) (xs : List X) → AllByRecursion P xs → AllByRecursion P (filter p xs)
-each_filter P p [] h = tt
-each_filter P p (x ∷ xs) h =
-    elim (cases_Bool (p x)) [
-      | inl a ↦ subst (AllByRecursion P) (sym (filter-true p x xs a)) (h.0, each_filter P p xs h.1)
-      | inr a ↦ subst (AllByRecursion P) (sym (filter-false p x xs a)) (each_filter P p xs h.1)
-    ]
+use Rattle.tva_base.proofs.Each.{each-filter, each-map}
 
 -- what holds of each part holds of all
 rest_of_part : {X : Type 0} (P : X → Type 0) (p : X → Bool) (x : X) (xs : List X) → AllByRecursion P (filter p (x ∷ xs)) → AllByRecursion P (filter p xs)
@@ -42,11 +35,7 @@ IsBelow pair = pair.1 < limit_of pair.0.grant
 
 firsts_each : {K : Type 0} (P : K → Type 0) (same : K → K → Bool) (ks : List K) → AllByRecursion P ks → AllByRecursion P (firsts same ks)
 firsts_each P same [] h = tt
-firsts_each P same (k ∷ ks) h = (h.0, each_filter P (λ other. not (same k other)) (firsts same ks) (firsts_each P same ks h.1))
-
-map_each : {X Y : Type 0} (f : X → Y) (P : Y → Type 0) (xs : List X) → AllByRecursion (λ x. P (f x)) xs → AllByRecursion P (map f xs)
-map_each f P [] h = tt
-map_each f P (x ∷ xs) h = (h.0, map_each f P xs h.1)
+firsts_each P same (k ∷ ks) h = (h.0, each-filter P (λ other. not (same k other)) (firsts same ks) (firsts_each P same ks h.1))
 
 either_below : (w : Bool) (a b : Pair × ℕ) → IsBelow a → IsBelow b → IsBelow (cond w a b)
 either_below true a b f g = f
@@ -66,9 +55,9 @@ IsFew restarts cs c = bytes_of_pair restarts cs (pair_of restarts c) < limit_of 
 
 pairs_below : (restarts : List (Time × List ℕ)) (cs : List Charged) → AllByRecursion (IsFew restarts cs) cs → AllByRecursion IsBelow (pair_sums restarts cs)
 pairs_below restarts cs h =
-    map_each (λ (key : Pair). (key, bytes_of_pair restarts cs key)) IsBelow (pairs_in restarts cs)
+    each-map (λ (key : Pair). (key, bytes_of_pair restarts cs key)) IsBelow (pairs_in restarts cs)
     (firsts_each (λ (key : Pair). bytes_of_pair restarts cs key < limit_of key.grant) same_pair (map (pair_of restarts) cs)
-    (map_each (pair_of restarts) (λ (key : Pair). bytes_of_pair restarts cs key < limit_of key.grant) cs h))
+    (each-map (pair_of restarts) (λ (key : Pair). bytes_of_pair restarts cs key < limit_of key.grant) cs h))
 
 -- ## a router's charges
 
@@ -111,7 +100,7 @@ router_below plan h budget =
     of_parts (IsKept plan h) (λ c. boot_at plan c.time) h (λ boot. recursion_from_All (IsKept plan h boot) (charges_of_boot plan boot h) (budget boot)) in
     worst_below (pair_sums plan.restarts (map without_nonce h))
     (pairs_below plan.restarts (map without_nonce h)
-    (map_each without_nonce (IsFew plan.restarts (map without_nonce h)) h (few_each plan h h kept)))
+    (each-map without_nonce (IsFew plan.restarts (map without_nonce h)) h (few_each plan h h kept)))
 
 -- ## a run
 

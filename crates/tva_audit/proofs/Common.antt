@@ -14,7 +14,7 @@ pub use Rattle.std.specs.declared.alloc.AllocError.{AllocError}
 pub use Rattle.std.specs.declared.alloc.Global.{Global}
 pub use Rattle.std.specs.declared.vec.Vec.{Vec}
 pub use Rattle.tva_audit.specs.Audit.{IsAudit, IsDifference, HasSums}
-pub use Rattle.tva_audit.specs.Chunks.{AreParts, IsSummable}
+pub use Rattle.tva_audit.specs.Chunks.{AreParts}
 pub use Rattle.tva_audit.specs.Followed.{Follows, HasFollowed, left}
 pub use Rattle.tva_audit.specs.Sums.{IsBelowLimit, run_sums, sum_of_log, without_nonce, numbered, sum_told, sums_told}
 pub use Rattle.tva_audit.specs.Tallies.{AreReady, AreTallied, IsTallied, restarts_at, sums_among}
@@ -32,7 +32,7 @@ pub use Rattle.tva_base.specs.declared.packet.Time.{Time}
 pub use Rattle.tva_lines.specs.Lines.{line_of, text_of_event, summary_of, text_of_totals, HasEvent}
 pub use Rattle.tva_net.specs.Nets.{NetState}
 pub use Rattle.tva_net.specs.declared.kinds.NetError.{NetError}
-pub use Rattle.tva_node.specs.States.{KeepsAll, NodeState, restarts_in, router_number}
+pub use Rattle.tva_node.specs.States.{NodeState, restarts_in, router_number}
 pub use Rattle.tva_plan.specs.Valid.{IsConfig}
 pub use Rattle.tva_plan.specs.Wiring.{picked}
 pub use Rattle.tva_plan.specs.declared.config.Config.{Config}
@@ -51,7 +51,7 @@ pub use Rattle.tva_report.specs.declared.differences.Finding.{Finding}
 pub use Rattle.tva_report.specs.declared.sums.Tally.{Tally}
 pub use Rattle.tva_rows.specs.declared.rows.Row.{Row}
 pub use Rattle.tva_run.proofs.Joins.{filter-true, filter-false}
-pub use Rattle.tva_run.specs.Entries.{Entry, Took, Started, input_time}
+pub use Rattle.tva_run.specs.Entries.{Entry, Took, input_time}
 pub use Rattle.tva_run.specs.Joins.{from_source}
 pub use Rattle.tva_run.specs.Parts.{charges, charge_of}
 pub use Rattle.tva_run.specs.Reaching.{Logs, links_out, log_at, site_at}

@@ -1,20 +1,7 @@
 -- The sums of chunks, one after another, are those of all.
-use Rattle.tva_audit.proofs.Common.{◌≡◌, ℕ, ◌+◌, ◌*◌, ◌/◌, ◌%◌, ◌<◌, ◌≤◌, List, [], ◌∷◌, ◌++◌, length, get_or, take, All, Option, Some, None, Result, Ok, Err, append-nil, refl, sym, ◌∙◌, ap, ap₂, subst, arith, min, sum_by, IfOk, AllocError, Global, Vec, slice_chunk, AllByRecursion, cons_option, take_all, take_more, All-from_recursion, filter_map-append, div_ceil_times, sum_by-cons, Event, NodePlan, Router, Host, charges_in, sums_of, KeepsAll, NodeState, restarts_in, router_number, RouterSum, AreParts, IsSummable, numbered, sum_told, sums_told}
+use Rattle.tva_audit.proofs.Common.{◌≡◌, ℕ, ◌+◌, ◌*◌, ◌/◌, ◌%◌, ◌<◌, ◌≤◌, List, [], ◌∷◌, ◌++◌, length, get_or, take, Option, Some, None, Result, Ok, Err, append-nil, refl, sym, ◌∙◌, ap, ap₂, subst, arith, min, IfOk, AllocError, Global, Vec, slice_chunk, cons_option, take_all, take_more, filter_map-append, div_ceil_times, Event, NodePlan, Router, Host, charges_in, sums_of, NodeState, restarts_in, router_number, RouterSum, AreParts, numbered, sum_told, sums_told}
 use Rattle.std.proofs.Math.Seq.{take-add}
 use Rattle.tva_report.specs.declared.sums.Sums.{Sums}
-
--- each of the nodes tells few events, where all together do
-few_each : (most : ℕ) (nodes : List NodeState) → sum_by (λ v. length v.events) nodes ≤ most → AllByRecursion (λ v. length v.events ≤ most) nodes
-few_each most [] h = tt
-few_each most (v ∷ vs) h =
-    let sum = sum_by-cons (λ (n : NodeState). length n.events) v vs in
-    (omega (arith, sum, h), few_each most vs (omega (arith, sum, h)))
-
-pub each_summable : (nodes : List NodeState) → sum_by (λ v. length v.events) nodes ≤ 4000000 → All (λ v. KeepsAll v.keeps) nodes → All IsSummable nodes
-each_summable nodes few keeps n d l = record {
-  few = All-from_recursion (λ (v : NodeState). length v.events ≤ 4000000) nodes (few_each 4000000 nodes few) n d l;
-  keeps = keeps n d l;
-}
 
 -- one node more
 pub one_told : (nodes : List NodeState) (i : ℕ) (d : NodeState) → i < length nodes

@@ -1,5 +1,5 @@
 -- What the events of a run say was charged.
-use Rattle.tva_audit.proofs.Common.{◌≡◌, ℕ, suc, ◌+◌, ◌<◌, List, [], ◌∷◌, length, get_or, map, Option, Some, None, refl, ◌∙◌, ap, ap₂, subst, arith, slice_get, option_map, option_map_or, cons_option, slice_get-get_or, Event, Grant, from_source, Config, NodePlan, Router, Host, picked, Site, site_of, Entry, Took, Started, input_time, charge_of, charges, Logs, links_out, log_at, site_at, AreEvents, event_node, Charged, charged_at, charged_in, charges_in, sums_of, numbered, run_sums, sum_of_log, sum_told, without_nonce, sums_among}
+use Rattle.tva_audit.proofs.Common.{◌≡◌, ℕ, suc, ◌+◌, ◌<◌, List, [], ◌∷◌, length, get_or, map, Option, Some, None, refl, ◌∙◌, ap, ap₂, subst, arith, slice_get, option_map, option_map_or, cons_option, slice_get-get_or, Event, Grant, from_source, Config, NodePlan, Router, Host, picked, Site, site_of, Entry, Took, input_time, charge_of, charges, Logs, links_out, log_at, site_at, AreEvents, event_node, Charged, charged_at, charged_in, charges_in, sums_of, numbered, run_sums, sum_of_log, sum_told, without_nonce, sums_among}
 use Rattle.tva_shim.specs.Packets.{PacketData, packet_length}
 use Rattle.tva_run.specs.Entries as entry
 use Rattle.tva_run.specs.Parts as parts
@@ -14,10 +14,7 @@ taken_told time packet (Some grant) = refl
 
 entry_told : (site : Site) (e : Entry) → charged_in (event_of site e) ≡ option_map without_nonce (charge_of e)
 entry_told site (Took input (entry.Arrived from packet fate onward)) = taken_told (input_time input) packet fate.charge
-entry_told site (Took input (entry.Sent made outcome)) = refl
-entry_told site (Took input entry.Ticked) = refl
-entry_told site (Took input (entry.Received from packet receipt went range)) = refl
-entry_told site (Started time link class packet) = refl
+entry_told site _ = refl
 
 one_more : {X Y : Type 0} (f : X → Y) (o : Option X) (xs : List X) → cons_option (option_map f o) (map f xs) ≡ map f (cons_option o xs)
 one_more f None xs = refl

@@ -1,17 +1,14 @@
 -- A run that is worked window by window.
-use Rattle.tva_audit.proofs.Common.{◌≡◌, ◌≤◌, ◌<◌, ◌-◌, Bool, true, false, cond, List, [], ◌∷◌, ◌++◌, length, All, Result, Ok, Err, refl, sym, ap, ◌∙◌, subst, arith, length-append, IfErr, IfOk, AllByRecursion, Global, Vec, All-from_recursion, recursion_from_All, Event, Totals, Config, Row, HasEvent, AreEventsTo, lines_of, totals_of, AreLines, IsCutShort, all_of, NetState, NetError, Comes, IsBehind}
+use Rattle.tva_audit.proofs.Common.{◌≡◌, ◌≤◌, ◌<◌, ◌-◌, Bool, true, false, cond, List, [], ◌∷◌, ◌++◌, length, All, Result, Ok, Err, refl, sym, ap, ◌∙◌, subst, arith, length-append, IfErr, IfOk, Global, Vec, All-from_recursion, recursion_from_All, Event, Totals, Config, Row, HasEvent, AreEventsTo, lines_of, totals_of, AreLines, IsCutShort, all_of, NetState, NetError, Comes, IsBehind}
 use Rattle.tva_run.specs.Windows.{Window, given}
 use Rattle.tva_run.proofs.Names.{events_named}
 use Rattle.tva_net.specs.declared.kinds.NetError.TheVariants as error
 use Rattle.tva_net.specs.declared.kinds.Window as answers
 use Rattle.tva_net.specs.declared.kinds.Window.TheVariants as answer
 use Rattle.tva_net.specs.Steps.{GoesOn, Gives, PassesLimit, Refuses, StandsFor}
+use Rattle.tva_base.proofs.Each.{each-right}
 
-each-right : {X : Type 0} (P : X → Type 0) (xs ys : List X) → AllByRecursion P (xs ++ ys) → AllByRecursion P ys
-each-right P [] ys h = h
-each-right P (x ∷ xs) ys h = each-right P xs ys h.1
-
-All-right : {X : Type 0} (P : X → Type 0) (xs ys : List X) → All P (xs ++ ys) → All P ys
+pub All-right : {X : Type 0} (P : X → Type 0) (xs ys : List X) → All P (xs ++ ys) → All P ys
 All-right P xs ys h = All-from_recursion P ys (each-right P xs ys (recursion_from_All P (xs ++ ys) h))
 
 -- what holds of each of these events holds of each of those that are shown

@@ -1,11 +1,8 @@
 -- Product: the texts of addresses and prefixes.
 use Rattle.std.specs.Prelude.{◌≡◌, ◌≤◌, ℕ, ◌+◌, ◌-◌, ◌*◌, ◌/◌, ◌^◌, ◌==◌, Bool, List, ◌∷◌, ◌++◌, take, drop, position}
 use Rattle.std.specs.Prelude.{Some}
-use Rattle.std.specs.declared.option.Option.{Option}
-use Rattle.std.specs.Option.{option_map}
-use Rattle.std.specs.Fmt.{decimal}
-use Rattle.tva_base.specs.declared.addresses.Address.{Address}
-use Rattle.tva_base.specs.declared.addresses.Prefix.{Prefix}
+use Rattle.std.specs.{declared.option.Option.Option, Option.option_map, Fmt.decimal}
+use Rattle.tva_base.specs.declared.addresses.{Address.Address, Prefix.Prefix}
 use Rattle.tva_base.specs.Decimal.{plain_decimal_of}
 use Rattle.tva_base.specs.Options.{◌>>=◌}
 

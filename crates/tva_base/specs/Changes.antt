@@ -1,8 +1,6 @@
 -- Product: the restarts of a router and the changes of its routes: what is in force at a time.
 use Rattle.std.specs.Prelude.{ℕ, ◌==◌, ◌&&◌, nat_le, Bool, List, [], ◌∷◌, map, filter, count_by}
-use Rattle.tva_base.specs.declared.addresses.Prefix.{Prefix}
-use Rattle.tva_base.specs.declared.packet.Time.{Time}
-use Rattle.tva_base.specs.declared.plan.Route.{Route}
+use Rattle.tva_base.specs.declared.{addresses.Prefix.Prefix, packet.Time.Time, plan.Route.Route}
 use Rattle.tva_base.specs.declared.plan.RouterPlan.{RouterPlan}
 
 -- the last of these, and where there is none, that one

@@ -1,9 +1,7 @@
 -- Product: what a text of decimal digits is as a number.
 use Rattle.std.specs.Prelude.{ℕ, ◌+◌, ◌-◌, ◌*◌, ◌^◌, ◌==◌, nat_le, ◌&&◌, if◌then◌else◌, Bool, false, List, [], ◌∷◌}
 use Rattle.std.specs.Prelude.{length, Some, None}
-use Rattle.std.specs.declared.option.Option.{Option}
-use Rattle.std.specs.List.{list_all}
-use Rattle.std.specs.Char.{is_ascii_digit}
+use Rattle.std.specs.{declared.option.Option.Option, List.list_all, Char.is_ascii_digit}
 
 -- the number that digits write
 abbrev pub number_in : List ℕ → ℕ

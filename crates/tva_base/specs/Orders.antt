@@ -1,10 +1,7 @@
 -- Crate: how addresses' pairs, rights and grants are ordered: by their first field, and where it is the same by the
 -- next.
-use Rattle.std.specs.Ordering.{nat_cmp, ordering_then}
-use Rattle.std.specs.declared.cmp.Ordering.{Ordering}
-use Rattle.tva_base.specs.declared.packet.Flow.{Flow}
-use Rattle.tva_base.specs.declared.packet.Grant.{Grant}
-use Rattle.tva_base.specs.declared.packet.Rights.{Rights}
+use Rattle.std.specs.{declared.cmp.Ordering.Ordering, Ordering.nat_cmp, Ordering.ordering_then}
+use Rattle.tva_base.specs.declared.packet.{Flow.Flow, Grant.Grant, Rights.Rights}
 
 abbrev pub flow_order : Flow → Flow → Ordering
 flow_order a b = ordering_then (nat_cmp a.src.0 b.src.0) (nat_cmp a.dst.0 b.dst.0)

@@ -1,11 +1,7 @@
 -- Product: which plans and limits are valid.
 use Rattle.std.specs.Prelude.{◌≡◌, ◌<◌, ◌≤◌, ℕ, ◌+◌, ◌-◌, ◌^◌, ◌%◌, List, [], ◌∷◌, All, Contains, map, Some}
-use Rattle.tva_base.specs.declared.addresses.Prefix.{Prefix}
-use Rattle.tva_base.specs.declared.limits.DrrLimits.{DrrLimits}
-use Rattle.tva_base.specs.declared.limits.LinkLimits.{LinkLimits}
-use Rattle.tva_base.specs.declared.plan.RouterPlan.{RouterPlan}
-use Rattle.tva_base.specs.declared.plan.HostPlan.{HostPlan}
-use Rattle.tva_base.specs.Changes.{of_prefix}
+use Rattle.tva_base.specs.declared.{addresses.Prefix.Prefix, limits.DrrLimits.DrrLimits, limits.LinkLimits.LinkLimits}
+use Rattle.tva_base.specs.{declared.plan.RouterPlan.RouterPlan, declared.plan.HostPlan.HostPlan, Changes.of_prefix}
 use Rattle.tva_base.specs.Versions.{AreRights, IsVersion}
 
 -- limits under which there may be fair queues

@@ -31,7 +31,7 @@ pub use packet::{
     grants_are_ordered,
 };
 pub use plan::{HostPlan, LinkPlan, PolicyKind, PolicyPlan, Route, RouterPlan};
-pub use readers::{address, addresses_are_four_numbers, prefix};
+pub use readers::{address, addresses_are_four_numbers, part, prefix};
 pub use texts::{Key, Line, Name};
 pub use versions::{
     carries, rights_in, rights_number, rights_size, seconds_max, units_max, version_for,

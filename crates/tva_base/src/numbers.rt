@@ -1,7 +1,6 @@
 // Numbers in decimal digits.
 ghost use Rattle.std.specs.Prelude.{◌≡◌, ◌≤◌, true, length, IfSome, if◌then◌else◌, Some, None};
-ghost use Rattle.std.specs.Char.{is_ascii_digit};
-ghost use Rattle.std.specs.List.{list_all};
+ghost use Rattle.std.specs.{Char.is_ascii_digit, List.list_all};
 ghost use Rattle.tva_base.specs.Decimal.{decimal_of, plain_decimal_of, has_leading_zero, number_in};
 
 /// The number that 1 to 20 ASCII digits write, leading zeros included. `None` exactly where the

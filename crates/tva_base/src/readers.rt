@@ -1,8 +1,7 @@
 // The texts of addresses and prefixes.
 ghost use Rattle.std.specs.Prelude.{◌≡◌, ◌≤◌, ◌<◌, ◌==◌, ℕ, List, Some, IfSome, position, length};
 ghost use Rattle.std.specs.Option.{option_map};
-ghost use Rattle.tva_base.specs.declared.addresses.Address.{Address};
-ghost use Rattle.tva_base.specs.Plan.{IsPrefix};
+ghost use Rattle.tva_base.specs.{declared.addresses.Address.Address, Plan.IsPrefix};
 ghost use Rattle.tva_base.specs.Addresses.{parted, octet_of, address_of, prefix_of, Writes};
 
 use crate::addresses::{Address, Prefix, cut};
@@ -47,15 +46,13 @@ pub fn prefix(text: &[u8]) -> Option<Prefix>
     })
 }
 
-// What stands before the first such byte, and what stands behind it.
+/// What stands before the first such byte of a text, and what stands behind it; `None` where there is none.
 #[tactic(auto, unfolding(crate::specs::Addresses::parted))]
-fn part(text: &[u8], byte: u8) -> Option<(&[u8], &[u8])>
+pub fn part(text: &[u8], byte: u8) -> Option<(&[u8], &[u8])>
     ensures { option_map (λ p. (p.0.now, p.1.now)) result ≡ parted byte text.now }
 {
-    match place_of(text, byte) {
-        Some(at) => Some((&text[..at], &text[at + 1..])),
-        None => None,
-    }
+    let at = place_of(text, byte)?;
+    Some((&text[..at], &text[at + 1..]))
 }
 
 // The place of the first such byte.
@@ -71,8 +68,5 @@ fn octet(text: &[u8]) -> Option<u32>
     ensures value { result ≡ octet_of text.now }
     ensures within { IfSome result (λ number. number ≤ 255) }
 {
-    match plain_decimal(text, 255) {
-        Some(number) => Some(number as u32),
-        None => None,
-    }
+    Some(plain_decimal(text, 255)? as u32)
 }

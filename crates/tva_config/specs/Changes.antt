@@ -4,10 +4,8 @@ use Rattle.std.specs.List.{list_any}
 use Rattle.tva_base.specs.declared.addresses.Prefix.{Prefix}
 use Rattle.tva_config_entries.specs.declared.faults.ConfigTable.TheVariants as table
 use Rattle.tva_config_entries.specs.declared.faults.ConfigRule.TheVariants as rule
-use Rattle.tva_config_entries.specs.declared.entries.RestartEntry.{RestartEntry}
-use Rattle.tva_config_entries.specs.declared.entries.RerouteEntry.{RerouteEntry}
-use Rattle.tva_config.specs.declared.joined.OwnedRoute.{OwnedRoute}
-use Rattle.tva_config.specs.declared.joined.OwnedRestart.{OwnedRestart}
+use Rattle.tva_config_entries.specs.declared.entries.{RestartEntry.RestartEntry, RerouteEntry.RerouteEntry}
+use Rattle.tva_config.specs.declared.joined.{OwnedRoute.OwnedRoute, OwnedRestart.OwnedRestart}
 use Rattle.tva_config.specs.declared.joined.OwnedReroute.{OwnedReroute}
 use Rattle.tva_config_entries.specs.Faults.{Read, ◌>>=◌, at, fault_at, unless, found}
 use Rattle.tva_config.specs.Routes.{router_named, is_for, resolved}

@@ -1,13 +1,10 @@
 -- Product: what the nodes must be to one another: names, addresses and times; and the sum of slots.
-use Rattle.std.specs.Prelude.{ℕ, ◌+◌, ◌-◌, ◌==◌, List, ◌++◌, map, length, nat_lt, sum_by}
-use Rattle.std.specs.Prelude.{if◌then◌else◌, Ok, Option, codes}
-use Rattle.std.specs.List.{list_any, position_from}
-use Rattle.std.specs.Str.{bytes_eq}
+use Rattle.std.specs.Prelude.{ℕ, ◌+◌, ◌-◌, ◌==◌, List, ◌++◌, map, length, nat_lt, sum_by, if◌then◌else◌, Ok, Option, codes}
+use Rattle.std.specs.{List.list_any, List.position_from, Str.bytes_eq}
 use Rattle.tva_base.specs.declared.addresses.Address.{Address}
 use Rattle.tva_config_entries.specs.declared.faults.ConfigTable.TheVariants as table
 use Rattle.tva_config_entries.specs.declared.faults.ConfigRule.TheVariants as rule
-use Rattle.tva_config_entries.specs.declared.place.Place.{Place}
-use Rattle.tva_config_entries.specs.declared.entries.RouterEntry.{RouterEntry}
+use Rattle.tva_config_entries.specs.declared.{place.Place.Place, entries.RouterEntry.RouterEntry}
 use Rattle.tva_config_entries.specs.declared.entries.HostEntry.{HostEntry}
 use Rattle.tva_config_entries.specs.Faults.{Read, ◌>>=◌, at, fault_at, unless}
 

@@ -1,26 +1,19 @@
 -- Product: the plan of a text, or its first fault.
-use Rattle.std.specs.Prelude.{ℕ, ◌+◌, ◌==◌, List, [], ◌∷◌, ◌++◌, map, length, nat_lt, if◌then◌else◌}
-use Rattle.std.specs.Prelude.{Ok, Some, None, codes}
+use Rattle.std.specs.Prelude.{ℕ, ◌+◌, ◌==◌, List, [], ◌∷◌, ◌++◌, map, length, nat_lt, if◌then◌else◌, Ok, Some, None, codes}
 use Rattle.std.specs.List.{filter_map, zip}
-use Rattle.tva_base.specs.declared.plan.LinkPlan.{LinkPlan}
-use Rattle.tva_base.specs.declared.plan.RouterPlan.{RouterPlan}
-use Rattle.tva_base.specs.declared.plan.HostPlan.{HostPlan}
+use Rattle.tva_base.specs.declared.plan.{LinkPlan.LinkPlan, RouterPlan.RouterPlan, HostPlan.HostPlan}
 use Rattle.tva_plan.specs.declared.config.Config.{Config}
 use Rattle.tva_plan.specs.declared.config.NodePlan as nodes
 use Rattle.tva_plan.specs.declared.config.NodePlan.TheVariants as node
-use Rattle.tva_config_entries.specs.declared.entries.RouterEntry.{RouterEntry}
-use Rattle.tva_config_entries.specs.declared.entries.HostEntry.{HostEntry}
+use Rattle.tva_config_entries.specs.declared.entries.{RouterEntry.RouterEntry, HostEntry.HostEntry}
 use Rattle.tva_config_entries.specs.declared.faults.ConfigTable.TheVariants as table
 use Rattle.tva_config_entries.specs.declared.faults.ConfigRule.TheVariants as rule
-use Rattle.tva_config.specs.declared.joined.OwnedRoute.{OwnedRoute}
-use Rattle.tva_config.specs.declared.joined.OwnedRestart.{OwnedRestart}
+use Rattle.tva_config.specs.declared.joined.{OwnedRoute.OwnedRoute, OwnedRestart.OwnedRestart}
 use Rattle.tva_config.specs.declared.joined.OwnedReroute.{OwnedReroute}
 use Rattle.tva_config_entries.specs.Faults.{Read, ◌>>=◌, at, fault_at, unless, in_turn}
-use Rattle.tva_config_entries.specs.Tables.{ConfigEntries}
-use Rattle.tva_config_entries.specs.Reading.{entries_read}
+use Rattle.tva_config_entries.specs.{Tables.ConfigEntries, Reading.entries_read}
 use Rattle.tva_config.specs.Nodes.{node_names, node_of, name_step, address_step, retry_step, all_slots}
-use Rattle.tva_config.specs.Links.{link_between, link_step, uplink_step}
-use Rattle.tva_config.specs.Routes.{route_step}
+use Rattle.tva_config.specs.{Links.link_between, Links.link_step, Links.uplink_step, Routes.route_step}
 use Rattle.tva_config.specs.Changes.{restart_step, reroute_step}
 use Rattle.tva_plan.specs.Wiring.{incoming_of, outgoing_of, all_places}
 

@@ -1,12 +1,10 @@
 -- Product: what routes must be to the nodes, the links and one another.
-use Rattle.std.specs.Prelude.{ℕ, ◌==◌, ◌&&◌, Bool, List, length, nat_lt, if◌then◌else◌}
-use Rattle.std.specs.Prelude.{option_and_then, Ok, Option, Some, None, codes}
+use Rattle.std.specs.Prelude.{ℕ, ◌==◌, ◌&&◌, Bool, List, length, nat_lt, if◌then◌else◌, option_and_then, Ok, Option, Some, None, codes}
 use Rattle.std.specs.List.{list_any}
 use Rattle.tva_base.specs.declared.addresses.Prefix.{Prefix}
 use Rattle.tva_config_entries.specs.declared.faults.ConfigTable.TheVariants as table
 use Rattle.tva_config_entries.specs.declared.faults.ConfigRule.TheVariants as rule
-use Rattle.tva_config_entries.specs.declared.place.Place.{Place}
-use Rattle.tva_config_entries.specs.declared.entries.RouteEntry.{RouteEntry}
+use Rattle.tva_config_entries.specs.declared.{place.Place.Place, entries.RouteEntry.RouteEntry}
 use Rattle.tva_config.specs.declared.joined.OwnedRoute.{OwnedRoute}
 use Rattle.tva_config_entries.specs.Faults.{Read, ◌>>=◌, at, fault_at, unless, found}
 

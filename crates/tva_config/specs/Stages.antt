@@ -1,33 +1,23 @@
 -- Kit: the steps of the plan, cut as the functions of the code take them.
-use Rattle.std.specs.Prelude.{ℕ, ◌+◌, ◌==◌, Bool, List, [], ◌∷◌, ◌++◌, length, nat_lt, if◌then◌else◌}
-use Rattle.std.specs.Prelude.{option_and_then, Ok, Option, Some, None, codes}
+use Rattle.std.specs.Prelude.{ℕ, ◌+◌, ◌==◌, Bool, List, [], ◌∷◌, ◌++◌, length, nat_lt, if◌then◌else◌, option_and_then, Ok, Option, Some, None, codes}
 use Rattle.std.specs.List.{filter_map}
-use Rattle.tva_base.specs.declared.addresses.Address.{Address}
-use Rattle.tva_base.specs.declared.addresses.Prefix.{Prefix}
-use Rattle.tva_base.specs.declared.packet.Time.{Time}
-use Rattle.tva_base.specs.declared.plan.LinkPlan.{LinkPlan}
-use Rattle.tva_base.specs.declared.plan.Route.{Route}
+use Rattle.tva_base.specs.declared.{addresses.Address.Address, addresses.Prefix.Prefix, packet.Time.Time}
+use Rattle.tva_base.specs.declared.plan.{LinkPlan.LinkPlan, Route.Route}
 use Rattle.tva_plan.specs.declared.config.Config.{Config}
 use Rattle.tva_plan.specs.declared.config.NodePlan as nodes
 use Rattle.tva_plan.specs.declared.config.NodePlan.TheVariants as node
 use Rattle.tva_config_entries.specs.declared.faults.ConfigTable.TheVariants as table
 use Rattle.tva_config_entries.specs.declared.faults.ConfigRule.TheVariants as rule
-use Rattle.tva_config_entries.specs.declared.entries.RouterEntry.{RouterEntry}
-use Rattle.tva_config_entries.specs.declared.entries.HostEntry.{HostEntry}
-use Rattle.tva_config_entries.specs.declared.entries.LinkEntry.{LinkEntry}
-use Rattle.tva_config_entries.specs.declared.entries.RouteEntry.{RouteEntry}
-use Rattle.tva_config_entries.specs.declared.entries.RestartEntry.{RestartEntry}
+use Rattle.tva_config_entries.specs.declared.entries.{RouterEntry.RouterEntry, HostEntry.HostEntry, LinkEntry.LinkEntry, RouteEntry.RouteEntry, RestartEntry.RestartEntry}
 use Rattle.tva_config_entries.specs.declared.entries.RerouteEntry.{RerouteEntry}
-use Rattle.tva_config.specs.declared.joined.OwnedRoute.{OwnedRoute}
-use Rattle.tva_config.specs.declared.joined.OwnedRestart.{OwnedRestart}
+use Rattle.tva_config.specs.declared.joined.{OwnedRoute.OwnedRoute, OwnedRestart.OwnedRestart}
 use Rattle.tva_config.specs.declared.joined.OwnedReroute.{OwnedReroute}
 use Rattle.tva_config_entries.specs.Faults.{Read, ◌>>=◌, at, fault_at, unless, found, in_turn}
 use Rattle.tva_config_entries.specs.Tables.{ConfigEntries}
 use Rattle.tva_plan.specs.Wiring.{links_from, all_places}
 use Rattle.tva_config.specs.Nodes.{node_names, node_of, name_step, address_step, retry_step, all_slots}
 use Rattle.tva_config.specs.Links.{link_between, link_step, only, uplink_step}
-use Rattle.tva_config.specs.Routes.{is_for, route_step}
-use Rattle.tva_config.specs.Changes.{restart_step, reroute_step}
+use Rattle.tva_config.specs.{Routes.is_for, Routes.route_step, Changes.restart_step, Changes.reroute_step}
 use Rattle.tva_config.specs.Read.{Owned, router_plans, host_plan}
 
 -- the steps over the names of all nodes

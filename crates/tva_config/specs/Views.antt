@@ -1,22 +1,11 @@
 -- Kit: what the values of the code stand for, for the clauses within the crate.
 use Rattle.std.specs.Prelude.{◌≡◌, ◌==◌, ◌&&◌, nat_le, nat_eq, ℕ, Bool, false, List, Option, Some, None, String}
-use Rattle.std.specs.HashMap.{HashMap, get, get_by_text}
+use Rattle.std.specs.declared.hash.{FoldHasher.FoldHasher, BuildHasherDefault.BuildHasherDefault}
+use Rattle.std.specs.{declared.alloc.Global.Global, HashMap.HashMap, HashMap.get, HashMap.get_by_text, List.list_any}
 use Rattle.std.specs.HashSet.{HashSet, contains}
-use Rattle.std.specs.List.{list_any}
-use Rattle.std.specs.declared.hash.FoldHasher.{FoldHasher}
-use Rattle.std.specs.declared.hash.BuildHasherDefault.{BuildHasherDefault}
-use Rattle.std.specs.declared.alloc.Global.{Global}
 use Rattle.tva_base.specs.declared.plan.LinkPlan.{LinkPlan}
-use Rattle.tva_config.specs.declared.joined.JoinedLists.{JoinedLists}
-use Rattle.tva_config.specs.declared.joined.OwnedLists.{OwnedLists}
-use Rattle.tva_config.specs.Read.{Owned}
-use Rattle.tva_config.specs.Stages.{Joined}
-use Rattle.tva_config.specs.declared.joined.OwnedRoute.{OwnedRoute}
-use Rattle.tva_config.specs.declared.joined.OwnedRestart.{OwnedRestart}
-use Rattle.tva_config.specs.declared.joined.OwnedReroute.{OwnedReroute}
-use Rattle.tva_config.specs.Nodes.{node_of}
-use Rattle.tva_config.specs.Links.{link_between}
-use Rattle.tva_config.specs.Routes.{is_for}
+use Rattle.tva_config.specs.declared.joined.{JoinedLists.JoinedLists, OwnedLists.OwnedLists, OwnedRoute.OwnedRoute, OwnedRestart.OwnedRestart, OwnedReroute.OwnedReroute}
+use Rattle.tva_config.specs.{Read.Owned, Stages.Joined, Nodes.node_of, Links.link_between, Routes.is_for}
 use Rattle.tva_config.specs.Changes.{is_late_restart, is_late_reroute}
 
 abbrev pub seen_owned : OwnedLists → Owned

@@ -1,7 +1,6 @@
 // What restarts and changes of routes must be to the routers, the links, the routes and one another.
 ghost use Rattle.std.specs.Prelude.{◌≡◌, ◌≤◌, IfOk, false, length};
-ghost use Rattle.std.specs.List.{list_any};
-ghost use Rattle.std.specs.HashMap.{get_by_text};
+ghost use Rattle.std.specs.{List.list_any, HashMap.get_by_text};
 ghost use Rattle.tva_config_entries.specs.Faults.{AnswersBy};
 ghost use Rattle.tva_config.specs.Views.{link_at, IsSeen, is_late, IsRestarted, IsRerouted};
 ghost use Rattle.tva_config.specs.Changes.{is_late_restart, restart_step, is_late_reroute, reroute_step};
@@ -50,10 +49,7 @@ fn next_restart(
     ensures step { result ≡ restart_step routers (get_by_text numbers.now) earlier.now.items entry.now }
     ensures after { IfOk result (λ r. list_any (is_late_restart r.router r.time.0) earlier.now.items ≡ false) }
 {
-    let place = Place {
-        table: ConfigTable::Restart,
-        entry: earlier.len() as u32,
-    };
+    let place = Place::new(ConfigTable::Restart, earlier.len() as u32);
     let Some(router) = router_named(routers, numbers, entry.router.as_str()) else {
         return Err(fault(place, ConfigRule::Owner, "router"));
     };
@@ -120,10 +116,7 @@ fn next_reroute(
     ensures step { result ≡ reroute_step routers (get_by_text numbers.now) (link_at pairs.now) routes.now.routes.items earlier.now.items entry.now }
     ensures after { IfOk result (λ r. list_any (is_late_reroute r.owned.router r.owned.route.prefix r.time.0) earlier.now.items ≡ false) }
 {
-    let place = Place {
-        table: ConfigTable::Reroute,
-        entry: earlier.len() as u32,
-    };
+    let place = Place::new(ConfigTable::Reroute, earlier.len() as u32);
     let owned = resolve(place, routers, numbers, pairs, &entry.route)?;
     let prefix = owned.route.prefix;
     let key = (owned.router, prefix.address.0, prefix.bits);

@@ -1,13 +1,13 @@
 // What links must be to the nodes and to one another.
 ghost use Rattle.std.specs.Prelude.{◌≡◌, ◌≤◌, ◌<◌, ◌^◌, ◌+◌, ◌*◌, IfOk, false, length};
-ghost use Rattle.std.specs.List.{list_any};
-ghost use Rattle.std.specs.HashMap.{get_by_text};
+ghost use Rattle.std.specs.{List.list_any, HashMap.get_by_text};
 ghost use Rattle.tva_config_entries.specs.Faults.{AnswersBy};
 ghost use Rattle.tva_config.specs.Views.{IsPairs, link_at};
 ghost use Rattle.tva_config.specs.Links.{joins, link_between, link_step, only};
 ghost use Rattle.tva_config.specs.Stages.{links_of, uplink_of, uplinks_of, rings_of};
 ghost use Rattle.tva_plan.specs.Wiring.{links_from, queues_behind, places, all_places};
 
+use crate::nodes::host_fault;
 use std::alloc::Global;
 use std::collections::HashMap;
 use tva_base::LinkPlan;
@@ -56,10 +56,7 @@ fn link(
     ensures plan { result ≡ link_step (get_by_text numbers.now) earlier.now.items entry.now }
     ensures single { IfOk result (λ plan. list_any (joins plan.from plan.to) earlier.now.items ≡ false) }
 {
-    let place = Place {
-        table: ConfigTable::Link,
-        entry: earlier.len() as u32,
-    };
+    let place = Place::new(ConfigTable::Link, earlier.len() as u32);
     let Some(from) = node(numbers, entry.from.as_str()) else {
         return Err(fault(place, ConfigRule::Ends, "from"));
     };
@@ -116,13 +113,7 @@ fn uplink(routers: usize, links: &[LinkPlan], host: usize) -> Result<u16, Config
 {
     match only_link(links, (routers + host) as u16) {
         Some(link) => Ok(link),
-        None => {
-            let place = Place {
-                table: ConfigTable::Host,
-                entry: host as u32,
-            };
-            Err(fault(place, ConfigRule::Uplink, "name"))
-        }
+        None => Err(host_fault(host, ConfigRule::Uplink, "name")),
     }
 }
 
@@ -151,11 +142,7 @@ pub fn rings(links: &[LinkPlan]) -> Result<(), ConfigFault>
     ensures { result ≡ rings_of links.now }
 {
     if all_places(links) > 1_000_000 {
-        let place = Place {
-            table: ConfigTable::Link,
-            entry: 0,
-        };
-        return Err(fault(place, ConfigRule::Rings, "-"));
+        return Err(fault(Place::new(ConfigTable::Link, 0), ConfigRule::Rings, "-"));
     }
     Ok(())
 }

@@ -1,10 +1,6 @@
 // What the nodes must be to one another.
 ghost use Rattle.std.specs.Prelude.{◌≡◌, ◌≤◌, ◌<◌, ◌+◌, ℕ, List, [], IfOk, length, get_or, map, is_some, not, nat_lt, Some};
-ghost use Rattle.std.specs.Result.{result_map_both};
-ghost use Rattle.std.specs.Bool.{OnTrue};
-ghost use Rattle.std.specs.HashMap.{get_by_text};
-ghost use Rattle.std.specs.Map.{update};
-ghost use Rattle.std.specs.Str.{bytes_eq};
+ghost use Rattle.std.specs.{Result.result_map_both, Bool.OnTrue, HashMap.get_by_text, Map.update, Str.bytes_eq};
 ghost use Rattle.tva_config_entries.specs.declared.faults.ConfigTable.TheVariants as table;
 ghost use Rattle.tva_config_entries.specs.Faults.{AnswersBy, at, fault_at};
 ghost use Rattle.tva_config.specs.Nodes.{node_names, node_of, node_place, all_slots};
@@ -72,15 +68,9 @@ fn place(routers: usize, node: usize) -> Place
     ensures { result ≡ node_place routers node }
 {
     if node < routers {
-        return Place {
-            table: ConfigTable::Router,
-            entry: node as u32,
-        };
+        return Place::new(ConfigTable::Router, node as u32);
     }
-    Place {
-        table: ConfigTable::Host,
-        entry: (node - routers) as u32,
-    }
+    Place::new(ConfigTable::Host, (node - routers) as u32)
 }
 
 /// Refuses the first host with an address that an earlier one has.
@@ -98,16 +88,12 @@ pub fn addresses(alloc: Global, hosts: &[HostEntry]) -> Result<(), ConfigError>
     Ok(())
 }
 
-fn host_fault(host: usize, rule: ConfigRule, key: &str) -> ConfigFault
+pub fn host_fault(host: usize, rule: ConfigRule, key: &str) -> ConfigFault
     requires number { host ≤ 1024 }
     requires short { length key.now ≤ 24 }
     ensures { result ≡ fault_at (at table.Host host) rule key.now }
 {
-    let place = Place {
-        table: ConfigTable::Host,
-        entry: host as u32,
-    };
-    fault(place, rule, key)
+    fault(Place::new(ConfigTable::Host, host as u32), rule, key)
 }
 
 /// Refuses the first host that asks again before a second and its margin are over.
@@ -138,10 +124,7 @@ pub fn slots(routers: &[RouterEntry]) -> Result<(), ConfigFault>
     ensures { result ≡ slots_of routers.now }
 {
     if all_slots(routers) > 1_000_000 {
-        let place = Place {
-            table: ConfigTable::Router,
-            entry: 0,
-        };
+        let place = Place::new(ConfigTable::Router, 0);
         return Err(fault(place, ConfigRule::Slots, "slots"));
     }
     Ok(())

@@ -1,8 +1,7 @@
 // The plans of nodes, from what their entries, links and routes are read as.
 ghost use Rattle.std.specs.Prelude.{◌≡◌, ◌≤◌, ◌+◌, ◌++◌, IfOk, OnOk, length};
-ghost use Rattle.tva_config.specs.Read.{router_plan, host_plan, router_plans};
+ghost use Rattle.tva_config.specs.{Read.router_plan, Read.host_plan, Read.router_plans, Views.seen_owned};
 ghost use Rattle.tva_config.specs.Stages.{routes_at, restarts_at, reroutes_at, host_plans};
-ghost use Rattle.tva_config.specs.Views.{seen_owned};
 ghost use Rattle.tva_plan.specs.Wiring.{incoming_of, outgoing_of};
 
 use crate::joined::{OwnedLists, OwnedReroute, OwnedRestart, OwnedRoute};

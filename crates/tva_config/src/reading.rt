@@ -4,8 +4,7 @@ ghost use Rattle.std.specs.HashMap.{get_by_text};
 ghost use Rattle.tva_config_entries.specs.Faults.{Answers, AnswersBy};
 ghost use Rattle.tva_plan.specs.Valid.{IsConfig};
 ghost use Rattle.tva_config_entries.specs.Views.{seen_entries};
-ghost use Rattle.tva_config.specs.Views.{link_at, seen_owned, seen_joined};
-ghost use Rattle.tva_config.specs.Read.{read_of};
+ghost use Rattle.tva_config.specs.{Views.link_at, Views.seen_owned, Views.seen_joined, Read.read_of};
 ghost use Rattle.tva_config.specs.Stages.{config_of, owned_of, linked_of, joined_of, planned_of};
 
 use crate::joined::{JoinedLists, OwnedLists};

@@ -2,9 +2,8 @@
 ghost use Rattle.std.specs.Prelude.{◌≡◌, ◌≤◌, IfOk, length};
 ghost use Rattle.std.specs.HashMap.{get_by_text};
 ghost use Rattle.tva_config_entries.specs.Faults.{AnswersBy};
-ghost use Rattle.tva_config.specs.Views.{link_at, IsSeen};
+ghost use Rattle.tva_config.specs.{Views.link_at, Views.IsSeen, Stages.link_to, Stages.routes_of};
 ghost use Rattle.tva_config.specs.Routes.{router_named, resolved, route_step};
-ghost use Rattle.tva_config.specs.Stages.{link_to, routes_of};
 
 use crate::joined::OwnedRoute;
 use crate::links::node;
@@ -59,10 +58,7 @@ fn next(
     requires seen { IsSeen seen.now earlier.now.items }
     ensures { result ≡ route_step routers (get_by_text numbers.now) (link_at pairs.now) earlier.now.items entry.now }
 {
-    let place = Place {
-        table: ConfigTable::Route,
-        entry: earlier.len() as u32,
-    };
+    let place = Place::new(ConfigTable::Route, earlier.len() as u32);
     let owned = resolve(place, routers, numbers, pairs, entry)?;
     let prefix = owned.route.prefix;
     if seen.contains(&(owned.router, prefix.address.0, prefix.bits)) {
@@ -115,10 +111,7 @@ fn link_to(
 ) -> Option<u16>
     ensures { result ≡ link_to (get_by_text numbers.now) (link_at pairs.now) router name.now }
 {
-    match node(numbers, name) {
-        Some(number) => link_at(pairs, router, number),
-        None => None,
-    }
+    link_at(pairs, router, node(numbers, name)?)
 }
 
 // The number of the link between two nodes.

@@ -1,19 +1,12 @@
 -- Product: the keys of each table, in the order of their faults: a key, its kind, and its default.
 use Rattle.std.specs.Prelude.{ℕ, ◌==◌, if◌then◌else◌, List, [], ◌∷◌, Option, Some, None, Ok, codes}
 use Rattle.toml.specs.Data.{Members}
-use Rattle.tva_base.specs.declared.limits.DrrLimits.{DrrLimits}
-use Rattle.tva_base.specs.declared.limits.LinkLimits.{LinkLimits}
-use Rattle.tva_base.specs.declared.plan.PolicyKind.TheVariants as policy
-use Rattle.tva_base.specs.declared.plan.PolicyPlan.{PolicyPlan}
-use Rattle.tva_base.specs.Addresses.{address_of, prefix_of}
+use Rattle.tva_base.specs.declared.limits.{DrrLimits.DrrLimits, LinkLimits.LinkLimits}
+use Rattle.tva_base.specs.{declared.plan.PolicyPlan.PolicyPlan, Addresses.address_of, Addresses.prefix_of}
 use Rattle.tva_base.specs.Versions.{seconds_max, units_max}
-use Rattle.tva_config_entries.specs.declared.place.Place.{Place}
-use Rattle.tva_config_entries.specs.declared.entries.RouterEntry.{RouterEntry}
-use Rattle.tva_config_entries.specs.declared.entries.HostEntry.{HostEntry}
-use Rattle.tva_config_entries.specs.declared.entries.LinkEntry.{LinkEntry}
-use Rattle.tva_config_entries.specs.declared.entries.RouteEntry.{RouteEntry}
-use Rattle.tva_config_entries.specs.declared.entries.RestartEntry.{RestartEntry}
-use Rattle.tva_config_entries.specs.declared.entries.RerouteEntry.{RerouteEntry}
+use Rattle.tva_base.specs.declared.plan.PolicyKind.TheVariants as policy
+use Rattle.tva_config_entries.specs.declared.{place.Place.Place, entries.RouterEntry.RouterEntry}
+use Rattle.tva_config_entries.specs.declared.entries.{HostEntry.HostEntry, LinkEntry.LinkEntry, RouteEntry.RouteEntry, RestartEntry.RestartEntry, RerouteEntry.RerouteEntry}
 use Rattle.tva_config_entries.specs.Faults.{Read, ◌>>=◌}
 use Rattle.tva_config_entries.specs.Keys.{only_listed, required, optional}
 use Rattle.tva_config_entries.specs.Values.{number, written, name_of, hex_bytes_of, hex_nonce_of, policy_of, few_items}

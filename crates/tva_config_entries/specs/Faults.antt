@@ -1,13 +1,11 @@
 -- Product: steps that give a value, or the first fault in a configuration.
-use Rattle.std.specs.Prelude.{◌≡◌, ℕ, List, [], ◌∷◌, ◌++◌, Bool, if◌then◌else◌, Option, Some, None, Result, Ok}
-use Rattle.std.specs.Prelude.{Err}
+use Rattle.std.specs.Prelude.{◌≡◌, ℕ, List, [], ◌∷◌, ◌++◌, Bool, if◌then◌else◌, Option, Some, None, Result, Ok, Err}
 use Rattle.tva_config_entries.specs.declared.faults.ConfigTable as tables
 use Rattle.tva_config_entries.specs.declared.faults.ConfigTable.TheVariants as table
 use Rattle.tva_config_entries.specs.declared.faults.ConfigRule as rules
-use Rattle.tva_config_entries.specs.declared.faults.ConfigFault.{ConfigFault}
-use Rattle.tva_config_entries.specs.declared.faults.ConfigError.{ConfigError}
-use Rattle.tva_config_entries.specs.declared.faults.ConfigError.TheVariants as error
+use Rattle.tva_config_entries.specs.declared.faults.{ConfigFault.ConfigFault, ConfigError.ConfigError}
 use Rattle.tva_config_entries.specs.declared.place.Place.{Place}
+use Rattle.tva_config_entries.specs.declared.faults.ConfigError.TheVariants as error
 
 -- a value, or the fault that is there instead
 abbrev pub Read : Type 0 → Type 0

@@ -1,7 +1,6 @@
 -- Product: keys: which are listed, and what stands at one.
 use Rattle.std.specs.Prelude.{ℕ, ◌&&◌, List, Bool, true, not, Ok, Err, Option, Some, None, codes}
-use Rattle.std.specs.List.{list_any}
-use Rattle.std.specs.Str.{bytes_eq}
+use Rattle.std.specs.{List.list_any, Str.bytes_eq}
 use Rattle.toml.specs.Data.{Data, Members, no_members, member, get_member}
 use Rattle.tva_config_entries.specs.declared.faults.ConfigRule.TheVariants as rule
 use Rattle.tva_config_entries.specs.declared.place.Place.{Place}

@@ -1,8 +1,7 @@
 -- Product: what stands in a text, or its first fault.
 use Rattle.std.specs.Prelude.{ℕ, ◌+◌, List, [], length, if◌then◌else◌, Ok, Option, None, codes}
 use Rattle.std.specs.Str.{is_utf8}
-use Rattle.toml.specs.Data.{Members}
-use Rattle.toml.specs.Parse.{parse_document}
+use Rattle.toml.specs.{Data.Members, Parse.parse_document}
 use Rattle.tva_config_entries.specs.declared.faults.ConfigTable.TheVariants as table
 use Rattle.tva_config_entries.specs.declared.faults.ConfigRule.TheVariants as rule
 use Rattle.tva_config_entries.specs.Faults.{Read, ◌>>=◌, top, fault_at, found}

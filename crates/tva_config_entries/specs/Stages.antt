@@ -1,17 +1,15 @@
 -- Kit: the steps of reading, cut as the functions of the code take them.
 use Rattle.std.specs.Prelude.{ℕ, List, [], length, map, nat_lt, Ok, codes}
-use Rattle.toml.specs.Data.{Members}
-use Rattle.toml.specs.View.{table_view}
+use Rattle.toml.specs.{Data.Members, View.table_view}
 use Rattle.tva_config_entries.specs.declared.faults.ConfigTable as tables
 use Rattle.tva_config_entries.specs.declared.faults.ConfigTable.TheVariants as table
 use Rattle.tva_config_entries.specs.declared.faults.ConfigRule.TheVariants as rule
-use Rattle.tva_config_entries.specs.declared.place.Place.{Place}
-use Rattle.tva_config_entries.specs.declared.top.TopTable.{TopTable}
+use Rattle.tva_config_entries.specs.declared.{place.Place.Place, top.TopTable.TopTable}
 use Rattle.tva_config_entries.specs.Faults.{Read, ◌>>=◌, at, top, fault_at, unless}
 use Rattle.tva_config_entries.specs.Keys.{only_listed, required, optional}
-use Rattle.tva_config_entries.specs.Values as value
 use Rattle.tva_config_entries.specs.Entries.{router_of, host_of, link_of, route_of, restart_of, reroute_of}
 use Rattle.tva_config_entries.specs.Tables.{top_keys, table_entries, ConfigEntries}
+use Rattle.tva_config_entries.specs.Values as value
 
 -- what the top level holds
 pub record Top : Type 0 where

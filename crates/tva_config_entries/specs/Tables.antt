@@ -3,13 +3,8 @@ use Rattle.std.specs.Prelude.{ℕ, List, [], ◌∷◌, length, nat_lt, codes}
 use Rattle.toml.specs.Data.{Members}
 use Rattle.tva_config_entries.specs.declared.faults.ConfigTable as tables
 use Rattle.tva_config_entries.specs.declared.faults.ConfigRule.TheVariants as rule
-use Rattle.tva_config_entries.specs.declared.place.Place.{Place}
-use Rattle.tva_config_entries.specs.declared.entries.RouterEntry.{RouterEntry}
-use Rattle.tva_config_entries.specs.declared.entries.HostEntry.{HostEntry}
-use Rattle.tva_config_entries.specs.declared.entries.LinkEntry.{LinkEntry}
-use Rattle.tva_config_entries.specs.declared.entries.RouteEntry.{RouteEntry}
-use Rattle.tva_config_entries.specs.declared.entries.RestartEntry.{RestartEntry}
-use Rattle.tva_config_entries.specs.declared.entries.RerouteEntry.{RerouteEntry}
+use Rattle.tva_config_entries.specs.declared.{place.Place.Place, entries.RouterEntry.RouterEntry}
+use Rattle.tva_config_entries.specs.declared.entries.{HostEntry.HostEntry, LinkEntry.LinkEntry, RouteEntry.RouteEntry, RestartEntry.RestartEntry, RerouteEntry.RerouteEntry}
 use Rattle.tva_config_entries.specs.Faults.{Read, at, fault_at, unless, in_turn}
 
 -- the keys of the top level

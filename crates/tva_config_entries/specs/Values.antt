@@ -1,11 +1,7 @@
 -- Product: the kinds of values of keys: what a value of the document is read as, or nothing where it isn't of the
 -- kind.
-use Rattle.std.specs.Prelude.{ℕ, ◌+◌, ◌*◌, ◌&&◌, pos, negsuc, ℤ, nat_le, if◌then◌else◌}
-use Rattle.std.specs.Prelude.{List, [], ◌∷◌, length, fold, codes, Option, Some, None, option_and_then}
-use Rattle.std.specs.Option.{option_map}
-use Rattle.std.specs.Result.{result_ok}
-use Rattle.std.specs.List.{list_all}
-use Rattle.std.specs.Str.{bytes_eq}
+use Rattle.std.specs.Prelude.{ℕ, ◌+◌, ◌*◌, ◌&&◌, pos, negsuc, ℤ, nat_le, if◌then◌else◌, List, [], ◌∷◌, length, fold, codes, Option, Some, None, option_and_then}
+use Rattle.std.specs.{Option.option_map, Result.result_ok, List.list_all, Str.bytes_eq}
 use Rattle.hex.specs.Hex.{decode_sized}
 use Rattle.toml.specs.Data.{Data, Items, no_items, item, Members, as_integer, as_str, as_array, as_table}
 use Rattle.tva_base.specs.declared.plan.PolicyKind as policies

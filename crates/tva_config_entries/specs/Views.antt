@@ -1,6 +1,5 @@
 -- Crate: what the values of the code stand for.
-use Rattle.tva_config_entries.specs.declared.entries.EntryLists.{EntryLists}
-use Rattle.tva_config_entries.specs.Tables.{ConfigEntries}
+use Rattle.tva_config_entries.specs.{declared.entries.EntryLists.EntryLists, Tables.ConfigEntries}
 
 abbrev pub seen_entries : EntryLists → ConfigEntries
 seen_entries e = record {

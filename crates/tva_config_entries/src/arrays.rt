@@ -1,7 +1,6 @@
 // Values that are arrays, of one kind or of tables.
 ghost use Rattle.std.specs.Prelude.{◌≡◌, IfOk, map, option_map, option_and_then};
-ghost use Rattle.toml.specs.Data.{as_table};
-ghost use Rattle.toml.specs.View.{view, array_view, table_view};
+ghost use Rattle.toml.specs.{Data.as_table, View.view, View.array_view, View.table_view};
 ghost use Rattle.tva_config_entries.specs.Values.{items, short_array, few_items, tables};
 
 use crate::values::Kind;
@@ -17,10 +16,7 @@ pub fn few_items<T: Kind>(alloc: Global, value: &Value) -> Result<Option<Vec<T>>
     ensures { IfOk result (λ found. option_map (λ v. v.items) found ≡ few_items T.kind (view value.now)) }
 {
     match value.as_array() {
-        Some(array) => match each(alloc, array) {
-            Ok(found) => Ok(few(found)),
-            Err(error) => Err(error),
-        },
+        Some(array) => Ok(few(each(alloc, array)?)),
         None => Ok(None),
     }
 }

@@ -1,9 +1,7 @@
 // What stands at the keys of an entry.
 ghost use Rattle.std.specs.Prelude.{◌≡◌, ◌≤◌, [], length, map, option_map, string_bytes};
-ghost use Rattle.std.specs.List.{list_all};
-ghost use Rattle.std.specs.BTreeMap.{keys};
-ghost use Rattle.toml.specs.Data.{get_member};
-ghost use Rattle.toml.specs.View.{table_view, view};
+ghost use Rattle.std.specs.{List.list_all, BTreeMap.keys};
+ghost use Rattle.toml.specs.{Data.get_member, View.table_view, View.view};
 ghost use Rattle.tva_config_entries.specs.declared.faults.ConfigRule.TheVariants as rule;
 ghost use Rattle.tva_config_entries.specs.Faults.{fault_at, found, Answers, AnswersBy};
 ghost use Rattle.tva_config_entries.specs.Keys.{is_listed, are_listed, only_listed, required, optional};

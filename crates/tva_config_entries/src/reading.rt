@@ -1,17 +1,15 @@
 // The steps to the entries of a configuration, in their order.
 ghost use Rattle.std.specs.Prelude.{◌≡◌, ◌≤◌, ◌+◌, IfOk, length, option_map};
 ghost use Rattle.toml.specs.View.{table_view};
-ghost use Rattle.tva_config_entries.specs.Faults.{AnswersBy};
-ghost use Rattle.tva_config_entries.specs.Stages.{all_entries_of, seen_top};
+ghost use Rattle.tva_config_entries.specs.{Faults.AnswersBy, Stages.all_entries_of, Stages.seen_top};
 ghost use Rattle.tva_config_entries.specs.Views.{seen_entries};
 ghost use Rattle.tva_config_entries.specs.Reading.{members_read, document_of, entries_read};
 
 use crate::entries::EntryLists;
 use crate::faults::{ConfigError, ConfigRule, ConfigTable};
 use crate::keys::fault;
-use crate::place::Place;
 use crate::top;
-use crate::top::TopTable;
+use crate::top::{TOP, TopTable};
 use std::alloc::{AllocError, Global};
 use toml::Table;
 
@@ -31,13 +29,7 @@ pub fn read_entries(alloc: Global, text: &[u8]) -> Result<EntryLists, ConfigErro
 {
     match document(alloc, text)? {
         Some(table) => read_table(alloc, &table),
-        None => {
-            let top = Place {
-                table: ConfigTable::Top,
-                entry: 0,
-            };
-            Err(fault(top, ConfigRule::Syntax, "-").into())
-        }
+        None => Err(fault(TOP, ConfigRule::Syntax, "-").into()),
     }
 }
 

@@ -1,9 +1,7 @@
 // The entries of each table, by the keys in their order.
 ghost use Rattle.std.specs.Prelude.{◌≡◌, ◌≤◌, ℕ, length};
-ghost use Rattle.toml.specs.Data.{Members};
-ghost use Rattle.toml.specs.View.{table_view};
-ghost use Rattle.tva_config_entries.specs.declared.place.Place.{Place};
-ghost use Rattle.tva_config_entries.specs.Faults.{Answers, Read};
+ghost use Rattle.toml.specs.{Data.Members, View.table_view};
+ghost use Rattle.tva_config_entries.specs.{declared.place.Place.Place, Faults.Answers, Faults.Read};
 ghost use Rattle.tva_config_entries.specs.Entries.{router_of, policy_plan_of, host_of, link_of, row, class_limits, behind_a_tag, limits_of, route_of, restart_of, reroute_of};
 
 use crate::entries::{HostEntry, LinkEntry, RerouteEntry, RestartEntry, RouteEntry, RouterEntry};

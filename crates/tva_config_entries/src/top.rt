@@ -2,8 +2,7 @@
 ghost use Rattle.std.specs.Prelude.{◌≡◌, ◌≤◌, ◌+◌, IfOk, OnOk, length, map, codes};
 ghost use Rattle.toml.specs.View.{table_view};
 ghost use Rattle.tva_config_entries.specs.declared.faults.ConfigRule.TheVariants as rule;
-ghost use Rattle.tva_config_entries.specs.Faults.{AnswersBy, at, fault_at};
-ghost use Rattle.tva_config_entries.specs.Tables.{table_entries};
+ghost use Rattle.tva_config_entries.specs.{Faults.AnswersBy, Faults.at, Faults.fault_at, Tables.table_entries};
 ghost use Rattle.tva_config_entries.specs.Stages.{top_of, tables_of, counts_of, seen_top};
 
 use crate::faults::{ConfigError, ConfigFault, ConfigRule, ConfigTable};
@@ -29,7 +28,7 @@ pub struct TopTable<'a> {
     pub reroutes: Vec<&'a Table>,
 }
 
-const TOP: Place = Place {
+pub const TOP: Place = Place {
     table: ConfigTable::Top,
     entry: 0,
 };

@@ -1,9 +1,7 @@
 // The kinds of values of keys.
 ghost use Rattle.std.specs.Prelude.{◌≡◌, ◌≤◌, IfSome, length};
-ghost use Rattle.std.specs.List.{list_all};
-ghost use Rattle.std.specs.declared.option.Option.{Option};
-ghost use Rattle.toml.specs.Data.{Data};
-ghost use Rattle.toml.specs.View.{view};
+ghost use Rattle.std.specs.{declared.option.Option.Option, List.list_all};
+ghost use Rattle.toml.specs.{Data.Data, View.view};
 ghost use Rattle.tva_base.specs.Addresses.{address_of, prefix_of};
 ghost use Rattle.tva_config_entries.specs.Values.{within, number, written, name_of, hex_bytes_of, hex_nonce_of, number_of_bytes, policy_of};
 ghost use Rattle.tva_plan.specs.Names.{is_name_byte};
@@ -33,10 +31,7 @@ fn number_in(value: &Value, low: u64, high: u64) -> Option<u64>
     ensures value { result ≡ number low high (view value.now) }
     ensures range { IfSome result (λ n. (low ≤ n) × (n ≤ high)) }
 {
-    match value.as_integer() {
-        Some(n) => within(n, low, high),
-        None => None,
-    }
+    within(value.as_integer()?, low, high)
 }
 
 fn within(n: i64, low: u64, high: u64) -> Option<u64>
@@ -61,10 +56,7 @@ impl Number for u32 {
     ghost range = { number };
 
     fn within(value: &Value, low: u32, high: u32) -> Option<u32> {
-        match number_in(value, u64::from(low), u64::from(high)) {
-            Some(n) => Some(n as u32),
-            None => None,
-        }
+        Some(number_in(value, u64::from(low), u64::from(high))? as u32)
     }
 }
 
@@ -72,10 +64,7 @@ impl Number for u16 {
     ghost range = { number };
 
     fn within(value: &Value, low: u16, high: u16) -> Option<u16> {
-        match number_in(value, u64::from(low), u64::from(high)) {
-            Some(n) => Some(n as u16),
-            None => None,
-        }
+        Some(number_in(value, u64::from(low), u64::from(high))? as u16)
     }
 }
 
@@ -83,10 +72,7 @@ impl Number for u8 {
     ghost range = { number };
 
     fn within(value: &Value, low: u8, high: u8) -> Option<u8> {
-        match number_in(value, u64::from(low), u64::from(high)) {
-            Some(n) => Some(n as u8),
-            None => None,
-        }
+        Some(number_in(value, u64::from(low), u64::from(high))? as u8)
     }
 }
 
@@ -104,10 +90,7 @@ impl Kind for Name {
     ghost kind = { written name_of };
 
     fn of(value: &Value) -> Option<Name> {
-        match value.as_str() {
-            Some(text) => name_of(text),
-            None => None,
-        }
+        name_of(value.as_str()?)
     }
 }
 
@@ -141,10 +124,7 @@ impl Kind for [u8; 32] {
     ghost kind = { written (hex_bytes_of 32) };
 
     fn of(value: &Value) -> Option<[u8; 32]> {
-        match value.as_str() {
-            Some(text) => master_of(text),
-            None => None,
-        }
+        master_of(value.as_str()?)
     }
 }
 
@@ -162,19 +142,13 @@ fn master_of(text: &str) -> Option<[u8; 32]>
 pub fn nonce(value: &Value) -> Option<u64>
     ensures { result ≡ written hex_nonce_of (view value.now) }
 {
-    match value.as_str() {
-        Some(text) => nonce_of(text),
-        None => None,
-    }
+    nonce_of(value.as_str()?)
 }
 
 fn nonce_of(text: &str) -> Option<u64>
     ensures { result ≡ hex_nonce_of text.now }
 {
-    match six_bytes(text) {
-        Some(bytes) => Some(number_of_bytes(&bytes)),
-        None => None,
-    }
+    Some(number_of_bytes(&six_bytes(text)?))
 }
 
 fn six_bytes(text: &str) -> Option<[u8; 6]>
@@ -204,10 +178,7 @@ impl Kind for PolicyKind {
     ghost kind = { written policy_of };
 
     fn of(value: &Value) -> Option<PolicyKind> {
-        match value.as_str() {
-            Some(text) => policy_of(text),
-            None => None,
-        }
+        policy_of(value.as_str()?)
     }
 }
 
@@ -231,10 +202,7 @@ impl Kind for Address {
     ghost kind = { written address_of };
 
     fn of(value: &Value) -> Option<Address> {
-        match value.as_str() {
-            Some(text) => tva_base::address(text.as_bytes()),
-            None => None,
-        }
+        tva_base::address(value.as_str()?.as_bytes())
     }
 }
 
@@ -243,9 +211,6 @@ impl Kind for Prefix {
     ghost kind = { written prefix_of };
 
     fn of(value: &Value) -> Option<Prefix> {
-        match value.as_str() {
-            Some(text) => tva_base::prefix(text.as_bytes()),
-            None => None,
-        }
+        tva_base::prefix(value.as_str()?.as_bytes())
     }
 }

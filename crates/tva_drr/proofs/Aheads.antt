@@ -1,9 +1,8 @@
 -- The measure of the bytes that may still go, over both levels, falls at each take by what is taken.
-use Rattle.tva_drr.proofs.Common.{◌≡◌, ℕ, zero, suc, ◌+◌, ◌-◌, ◌*◌, ◌<◌, ◌≤◌, true, false, cond, eqb, leb, ◌&&◌, Option, Some, None, List, [], ◌∷◌, ◌++◌, refl, sym, ap, ◌∙◌, subst, arith, cases_eq, nat_tests, div_ceil, MatchBool, AllByRecursion, mul-le-mul_right, mul_comm, length-map, map_push, DrrLimits, AreDrrLimits, Queue, Fair, fair, has_key, items_of, lacks_queue, lacks_room, offer_leaves, taken, AreFair, is_front, first_bytes, head_bytes, most_until, Turn, turn, deficit_of, place_of, quanta_before, ahead, bytes_ahead, IsLeft, Group, group, hier, inner_limits, has_group, queues_of, all_group_bytes, lacks_group, lacks_place, lacks_space, changed, put_under, left_by_offer, group_refilled, group_settled, groups_taken, left_by_take, AreGroupsBehind, AreHier, IsHier, turns_of_groups, bytes_ahead_under, next_bytes, IsLeftUnder, most_until_under}
-use Rattle.tva_drr.proofs.Lists.{by_key}
+use Rattle.tva_drr.proofs.Common.{◌≡◌, ℕ, suc, ◌+◌, ◌-◌, ◌*◌, ◌<◌, ◌≤◌, true, false, cond, eqb, leb, Option, Some, None, List, [], ◌∷◌, refl, sym, ap, ◌∙◌, subst, arith, cases_eq, nat_tests, div_ceil, AllByRecursion, mul-le-mul_right, mul_comm, length-map, map_push, DrrLimits, AreDrrLimits, Queue, Fair, fair, has_key, items_of, lacks_queue, lacks_room, offer_leaves, taken, AreFair, is_front, first_bytes, head_bytes, most_until, Turn, turn, deficit_of, place_of, quanta_before, ahead, bytes_ahead, Group, group, hier, inner_limits, has_group, queues_of, all_group_bytes, lacks_group, lacks_place, lacks_space, changed, put_under, left_by_offer, group_refilled, group_settled, groups_taken, left_by_take, AreGroupsBehind, AreHier, IsHier, turns_of_groups, bytes_ahead_under, next_bytes, IsLeftUnder, most_until_under}
 use Rattle.tva_drr.proofs.Keeps.{fair-taken}
 use Rattle.tva_drr.proofs.Ceil.{ceil_le}
-use Rattle.tva_drr.proofs.Falling.{by_test, has, refill, settle, join, Stand, falls_own, falls_other, ahead-join, most, taken_falls, ahead-put, ahead_most, head_ahead}
+use Rattle.tva_drr.proofs.Falling.{has, refill, settle, join, Stand, falls_own, falls_other, ahead-join, most, taken_falls, ahead-put, ahead_most, head_ahead}
 use Rattle.tva_drr.proofs.Until.{offer_cases, ahead_enough}
 use Rattle.tva_drr.proofs.GroupLists.{none_true, queues_of-changed, queues_of-changed_other, queues_of_none, offered_is}
 use Rattle.tva_drr.proofs.Keeping.{inner_of}
@@ -12,8 +11,7 @@ use Rattle.tva_drr.proofs.Orders.{queues_of-settled_own, queues_of-settled_other
 -- ## more bytes have no fewer ahead
 
 quanta-le : (others place t u : ℕ) → t ≤ u → quanta_before others place t ≤ quanta_before others place u
-quanta-le others zero t u h = mul-le-mul_right others h
-quanta-le others (suc before) t u h = let k : t - 1 ≤ u - 1 = omega arith in omega (arith, mul-le-mul_right others k)
+quanta-le others place t u h = grind (arith, nat_tests, mul-le-mul_right)
 
 pub most-le : (l : DrrLimits) (r s : ℕ) → 1 ≤ l.quantum → r ≤ s → most_until l r ≤ most_until l s
 most-le l r s q h =
@@ -40,8 +38,7 @@ module _ {T : Type 0} where
   -- ## the turns of groups
 
   turns-refilled : (quantum : ℕ) (gs : List (Group T)) → turns_of_groups (group_refilled quantum gs) ≡ refill quantum (turns_of_groups gs)
-  turns-refilled quantum [] = refl
-  turns-refilled quantum (g ∷ gs) = refl
+  turns-refilled quantum gs = grind (arith, nat_tests)
 
   turns-changed : (change : Fair T → Fair T) (m : DrrLimits) (start outer : ℕ) (gs : List (Group T)) → turns_of_groups (changed change m start outer gs) ≡ join start outer (turns_of_groups gs)
   turns-changed change m start outer [] = refl
@@ -63,18 +60,15 @@ module _ {T : Type 0} where
     sends (q ∷ qs) = Some (first_bytes measure q.items)
 
     sends_within : (qs : List (Queue T)) (y left : ℕ) → sends qs ≡ Some y → head_bytes measure qs ≤ left → y ≤ left
-    sends_within [] y left e h = absurd (cc)
-    sends_within (q ∷ qs) y left e h = let s : first_bytes measure q.items ≡ y = cc in omega (arith, h, s)
+    sends_within qs y left e h = grind (arith, nat_tests)
 
     turns-settled : (quantum : ℕ) (g : Group T) (qs : List (Queue T)) (gs : List (Group T))
         → turns_of_groups (group_settled measure quantum g qs gs) ≡ settle quantum (sends qs) (turn g.key g.deficit) (turns_of_groups gs)
-    turns-settled quantum g [] gs = turns-refilled quantum gs
-    turns-settled quantum g (q ∷ qs) gs = grind (arith, nat_tests, turns-refilled quantum (gs ++ g ∷ []), map_push (λ (p : Group T). turn p.key p.deficit) gs g, refill quantum (turns_of_groups gs ++ turn g.key g.deficit ∷ []), refill quantum)
+    turns-settled quantum g qs gs = grind (arith, nat_tests, turns-refilled, map_push)
 
     -- what fair queues send next is ahead of what a key has yet to send
     pub next_ahead_of : (m : DrrLimits) (key r : ℕ) (qs : List (Queue T)) → AreFair measure m qs → first_bytes measure (items_of key qs) ≤ r → head_bytes measure qs ≤ bytes_ahead m key r qs
-    next_ahead_of m key r [] f w = omega arith
-    next_ahead_of m key r (q ∷ qs) f w = head_ahead measure m key r (q ∷ qs) f (λ t. subst (λ b. first_bytes measure (cond b q.items (items_of key qs)) ≤ r) t w)
+    next_ahead_of m key r qs f w = grind (arith, nat_tests, head_ahead)
 
     module _ (l : DrrLimits) (inner : ℕ) where
       behind_groups : (gs : List (Group T)) → AreGroupsBehind measure l inner gs → AllByRecursion (λ (t : Turn). t.deficit < l.max) (turns_of_groups gs)
@@ -82,8 +76,7 @@ module _ {T : Type 0} where
       behind_groups (g ∷ gs) h = (h.0, behind_groups gs h.1)
 
       stand_groups : (gs : List (Group T)) → AreHier measure l inner gs → Stand l (turns_of_groups gs)
-      stand_groups [] h = tt
-      stand_groups (g ∷ gs) h = (omega (arith, h.few, length-map gs (λ (p : Group T). turn p.key p.deficit)), h.turn.1, behind_groups gs h.turn.2)
+      stand_groups gs h = grind (arith, nat_tests, length-map, behind_groups)
 
       -- ## a take
 
@@ -96,25 +89,22 @@ module _ {T : Type 0} where
       own_falls k key bytes left d m qs gs v h there later s n =
           let after : List (Queue T) = taken measure m.quantum qs in
           let g : Group T = group k (d - head_bytes measure qs) (fair m after) in
-          let new : List (Group T) = group_settled measure l.quantum g after gs in
           let i = h.each.0 in
-          let inner_left : IsLeft measure m key bytes left qs =
-          by_test (is_front key qs) (λ b. left + cond b (head_bytes measure qs) 0 ≡ bytes → MatchBool b ((head_bytes measure qs + left ≡ bytes) × (first_bytes measure (items_of key after) ≤ left)) (left ≡ bytes))
-          (λ _ z. (omega arith, n)) (λ _ z. omega arith) s in
-          let small : ℕ = bytes_ahead m key left after in
-          let great : ℕ = bytes_ahead m key bytes qs in
-          let falls : small + head_bytes measure qs ≤ great = taken_falls measure m key bytes left qs i.fair.limits i.fair.queues there later inner_left in
-          let next : head_bytes measure after ≤ small = next_ahead_of m key left after (fair-taken measure m qs i.fair.limits i.fair.queues) n in
-          let more : ℕ = great - head_bytes measure qs in
-          let e = turns-settled l.quantum g after gs in
-          let kept : has_key key (queues_of m k new).queues ≡ true = subst (λ z. has_key key z ≡ true) (sym (queues_of-settled_own measure l inner l.quantum k (d - head_bytes measure qs) m after gs h.each.1)) later in
-          let q : 1 ≤ l.quantum = omega (arith, v.max, v.quantum) in
-          let outer : ahead l k more (turns_of_groups new) + head_bytes measure qs ≤ ahead l k great (turns_of_groups (group k d (fair m qs) ∷ gs)) =
-          subst (λ z. ahead l k more z + head_bytes measure qs ≤ ahead l k great (turns_of_groups (group k d (fair m qs) ∷ gs))) (sym e)
-          (falls_own l great more (head_bytes measure qs) (sends after) (turn k d) (turns_of_groups gs) q (has-groups k gs ∙ h.each.1)
-          (omega (arith, h.few, length-map gs (λ (p : Group T). turn p.key p.deficit))) h.turn.0 (omega (arith, falls)) (λ y w. sends_within after y more w (omega (arith, next, falls)))
-          (subst (λ z. has k z ≡ true) e (has-groups k new ∙ has_group_from m k key new kept))) in
-          omega (arith, outer, ahead-le l k small more (turns_of_groups new) q (omega (arith, falls)))
+          let falls = taken_falls measure m key bytes left qs i.fair.limits i.fair.queues there later (grind (arith, nat_tests)) in
+          grind (
+            arith,
+            nat_tests,
+            falls,
+            next_ahead_of m key left after (fair-taken measure m qs i.fair.limits i.fair.queues) n,
+            turns-settled l.quantum g after gs,
+            queues_of-settled_own measure l inner l.quantum k (d - head_bytes measure qs) m after gs h.each.1,
+            has-groups,
+            has_group_from m k key,
+            sends_within after,
+            length-map gs (λ (p : Group T). turn p.key p.deficit),
+            falls_own l (bytes_ahead m key bytes qs) (bytes_ahead m key bytes qs - head_bytes measure qs) (head_bytes measure qs) (sends after) (turn k d) (turns_of_groups gs),
+            ahead-le l k (bytes_ahead m key left after) (bytes_ahead m key bytes qs - head_bytes measure qs),
+          )
 
       -- a take of another group
       other_falls : (outer r : ℕ) (g : Group T) (gs : List (Group T)) → (g.key ≡ outer → ⊥) → AreDrrLimits l → AreHier measure l inner (g ∷ gs) → has_group outer gs ≡ true
@@ -133,40 +123,7 @@ module _ {T : Type 0} where
           → bytes_ahead_under (left_by_take measure (hier l inner gs)) outer key left + next_bytes measure gs
           ≤ bytes_ahead_under (hier l inner gs) outer key bytes
       falls_under outer key bytes left [] h w v n = absurd (cc)
-      falls_under outer key bytes left (g ∷ gs) h w v n =
-          let m : DrrLimits = g.queues.limits in
-          let li : DrrLimits = inner_limits l inner in
-          let qs : List (Queue T) = g.queues.queues in
-          let after : List (Queue T) = taken measure m.quantum qs in
-          let new : List (Group T) = groups_taken measure l.quantum (g ∷ gs) in
-          let i = h.groups.each.0 in
-          by_key g.key outer (λ b. eqb g.key outer ≡ b → left + cond (b && is_front key qs) (head_bytes measure qs) 0 ≡ bytes
-          → ahead l outer (bytes_ahead li key left (queues_of li outer new).queues) (turns_of_groups new) + head_bytes measure qs
-          ≤ ahead l outer (bytes_ahead li key bytes (queues_of li outer (g ∷ gs)).queues) (turns_of_groups (g ∷ gs)))
-          (λ e t s.
-          let was : (queues_of li outer (g ∷ gs)).queues ≡ qs = ap (λ b. (cond b g.queues (queues_of li outer gs)).queues) t in
-          let now : (queues_of li outer new).queues ≡ after =
-          subst (λ o. (queues_of li o new).queues ≡ after) e (subst (λ z. (queues_of z g.key new).queues ≡ after) i.limits
-          (queues_of-settled_own measure l inner l.quantum g.key (g.deficit - head_bytes measure qs) m after gs h.groups.each.1)) in
-          let own = own_falls g.key key bytes left g.deficit m qs gs h.limits h.groups (subst (λ z. has_key key z ≡ true) was w)
-          (subst (λ z. has_key key z ≡ true) now v) s (subst (λ z. first_bytes measure (items_of key z) ≤ left) now n.1) in
-          rw (now, was) (subst (λ o. ahead l o (bytes_ahead li key left after) (turns_of_groups new) + head_bytes measure qs ≤ ahead l o
-          (bytes_ahead li key bytes qs) (turns_of_groups (g ∷ gs))) e
-          (subst (λ z. ahead l g.key (bytes_ahead z key left after) (turns_of_groups new) + head_bytes measure qs ≤ ahead l g.key
-          (bytes_ahead z key bytes qs) (turns_of_groups (g ∷ gs))) i.limits own)))
-          (λ k t s.
-          let there : has_group outer gs ≡ true = subst (λ b. cond b true (has_group outer gs) ≡ true) t
-          (has_group_from li outer key (g ∷ gs) w) in
-          let same : queues_of li outer new ≡ queues_of li outer (g ∷ gs) =
-          queues_of-settled_other measure l inner l.quantum outer g.key (g.deficit - head_bytes measure qs) m li after gs k ∙ sym
-          (ap (λ b. cond b g.queues (queues_of li outer gs)) t) in
-          let stays : left ≡ bytes = omega (arith, s) in
-          let other = other_falls outer (bytes_ahead li key bytes (queues_of li outer (g ∷ gs)).queues) g gs k h.limits h.groups there in
-          subst (λ z. ahead l outer (bytes_ahead li key z (queues_of li outer new).queues) (turns_of_groups new) + head_bytes measure qs
-          ≤ ahead l outer (bytes_ahead li key bytes (queues_of li outer (g ∷ gs)).queues) (turns_of_groups (g ∷ gs))) (sym stays)
-          (subst (λ (a : Fair T). ahead l outer (bytes_ahead li key bytes a.queues) (turns_of_groups new) + head_bytes measure qs
-          ≤ ahead l outer (bytes_ahead li key bytes (queues_of li outer (g ∷ gs)).queues) (turns_of_groups (g ∷ gs))) (sym same) other))
-          refl n.0
+      falls_under outer key bytes left (g ∷ gs) h w v n = grind (arith, nat_tests, queues_of-settled_own, own_falls, has_group_from, queues_of-settled_other, other_falls)
 
       -- ## an offer
 
@@ -208,24 +165,20 @@ module _ {T : Type 0} where
           → has_key key (queues_of (inner_limits l inner) outer gs).queues ≡ true → 1 ≤ bytes
           → bytes_ahead_under (hier l inner gs) outer key bytes ≤ most_until_under l inner bytes
       most_under outer key bytes gs h t b =
-          let li : DrrLimits = inner_limits l inner in
-          let f : Fair T = queues_of li outer gs in
+          let f : Fair T = queues_of (inner_limits l inner) outer gs in
           let o = inner_of measure l inner outer gs h.limits h.inner h.groups.each in
-          let within : bytes_ahead li key bytes f.queues ≤ most_until li bytes =
-          subst (λ z. bytes_ahead z key bytes f.queues ≤ most_until z bytes) o.0
-          (ahead_most measure f.limits key bytes f.queues o.1.limits o.1.queues t b) in
-          let some = ahead_enough measure li key bytes f.queues in
-          let whole = most l outer (bytes_ahead li key bytes f.queues) (turns_of_groups gs) (omega (arith, h.limits.max, h.limits.quantum))
-          (stand_groups gs h.groups) (has-groups outer gs ∙ has_group_from li outer key gs t) (omega (arith, some, b)) in
-          omega (
+          grind (
             arith,
-            whole,
-            most-le l (bytes_ahead li key bytes f.queues) (most_until li bytes)
-                (omega (arith, h.limits.max, h.limits.quantum)) within,
+            nat_tests,
+            o.0,
+            ahead_most measure f.limits key bytes f.queues o.1.limits o.1.queues t b,
+            ahead_enough measure (inner_limits l inner) key bytes f.queues,
+            most l outer (bytes_ahead (inner_limits l inner) key bytes f.queues) (turns_of_groups gs),
+            stand_groups gs h.groups,
+            has-groups outer gs,
+            has_group_from (inner_limits l inner) outer key gs t,
+            most-le l (bytes_ahead (inner_limits l inner) key bytes f.queues) (most_until (inner_limits l inner) bytes),
           )
 
       pub enough_under : (outer key bytes : ℕ) (gs : List (Group T)) → bytes ≤ bytes_ahead_under (hier l inner gs) outer key bytes
-      enough_under outer key bytes gs =
-          let li : DrrLimits = inner_limits l inner in
-          let r : ℕ = bytes_ahead li key bytes (queues_of li outer gs).queues in
-          omega (arith, ahead_enough measure li key bytes (queues_of li outer gs).queues, (let s : r ≤ ahead l outer r (turns_of_groups gs) = omega arith in s))
+      enough_under outer key bytes gs = grind (arith, nat_tests, ahead_enough)

@@ -1,12 +1,11 @@
 -- The measure of the bytes that may still go falls at each take by what is taken.
-use Rattle.tva_drr.proofs.Common.{◌≡◌, ℕ, suc, ◌+◌, ◌-◌, ◌*◌, ◌<◌, ◌≤◌, Bool, true, false, cond, eqb, leb, Option, Some, None, List, [], ◌∷◌, ◌++◌, length, refl, sym, ap, ◌∙◌, subst, inl, inr, mul_assoc, arith, div_ceil, MatchBool, AllByRecursion, option_map, mul-le-mul_right, add-mul, mul-add, mul_comm, leb_tells, length-map, map_push, DrrLimits, AreDrrLimits, Queue, queue, fair, has_key, items_of, first, put, lacks_queue, lacks_room, offer_leaves, refilled, settled, popped, front_settled, taken, AreBehind, AreFair, is_front, first_bytes, head_bytes, most_until, Turn, turn, deficit_of, other_deficits, place_of, quanta_before, ahead, turns_of, bytes_ahead, IsLeft}
+use Rattle.tva_drr.proofs.Common.{◌≡◌, ℕ, suc, ◌+◌, ◌-◌, ◌*◌, ◌<◌, ◌≤◌, Bool, true, false, cond, eqb, leb, Option, Some, None, List, [], ◌∷◌, ◌++◌, length, refl, sym, ap, ◌∙◌, subst, mul_assoc, arith, div_ceil, AllByRecursion, option_map, mul-le-mul_right, add-mul, mul-add, mul_comm, leb_tells, length-map, map_push, DrrLimits, AreDrrLimits, Queue, queue, fair, has_key, items_of, first, put, lacks_queue, lacks_room, offer_leaves, refilled, settled, popped, front_settled, taken, AreBehind, AreFair, is_front, first_bytes, head_bytes, most_until, Turn, turn, deficit_of, other_deficits, place_of, ahead, turns_of, bytes_ahead, IsLeft, nat_tests}
 use Rattle.tva_drr.proofs.Lists.{by_key}
 use Rattle.tva_drr.proofs.OrderLaws.{items_of-settled-own}
 use Rattle.tva_drr.proofs.Ceil.{ceil_le, ceil_some, ceil_less}
 
 pub by_test : (b : Bool) (P : Bool → Type 0) → (b ≡ true → P true) → (b ≡ false → P false) → P b
-by_test true P t f = t refl
-by_test false P t f = f refl
+by_test b P t f = grind (arith, nat_tests)
 
 later_turns : (r d q : ℕ) → 1 ≤ q → div_ceil (r - (d + q)) q ≡ div_ceil (r - d) q - 1
 later_turns r d q h = let e : r - (d + q) ≡ r - d - q = omega arith in ap (λ z. div_ceil z q) e ∙ ceil_less (r - d) q h
@@ -19,14 +18,10 @@ next_lap d o r j x q = let m = add-mul (j + x) 1 q in let e : suc j + x ≡ j + 
 
 -- a place behind all others is at most a round away
 round_le : (j t k q : ℕ) → 1 ≤ t → j ≤ k → (j + (t - 1) * k) * q ≤ (t * k) * q
-round_le j t k q h w =
-    let m : (t - 1) * k + k ≡ t * k = (let a = add-mul (t - 1) 1 k in let e : t - 1 + 1 ≡ t = omega arith in omega (arith, a, ap (λ z. z * k) e)) in
-    mul-le-mul_right q (let s : j + (t - 1) * k ≤ t * k = omega arith in s)
+round_le j t k q h w = grind (arith, nat_tests, add-mul, mul-le-mul_right)
 
 offered_either : {A : Type 0} (b c : Bool) (f g : A) (P : A → Type 0) → P f → P g → P (cond b f (cond c f g))
-offered_either true c f g P x y = x
-offered_either false true f g P x y = x
-offered_either false false f g P x y = y
+offered_either b c f g P x y = grind (arith, nat_tests)
 
 most_is : (k m q x : ℕ) → k * (m * q + x) ≡ (m * k) * q + k * x
 most_is k m q x = mul-add k (m * q) x ∙ ap (λ z. z + k * x) (sym (mul_assoc k m q) ∙ ap (λ z. z * q) (mul_comm k m))
@@ -61,27 +56,19 @@ other-push key (t ∷ ts) p = omega (arith, other-push key ts p)
 
 place-push : (key : ℕ) (ts : List Turn) (p : Turn) → has key ts ≡ true → place_of key (ts ++ p ∷ []) ≡ place_of key ts
 place-push key [] p h = absurd (cc)
-place-push key (t ∷ ts) p h =
-    by_test (eqb t.key key) (λ b. cond b true (has key ts) ≡ true → cond b 0 (suc (place_of key (ts ++ p ∷ []))) ≡ cond b 0 (suc (place_of key ts)))
-    (λ e k. refl) (λ e k. ap suc (place-push key ts p k)) h
+place-push key (t ∷ ts) p h = grind (arith, nat_tests, (place-push key ts p))
 
 pub deficit-push : (key : ℕ) (ts : List Turn) (p : Turn) → has key ts ≡ true → deficit_of key (ts ++ p ∷ []) ≡ deficit_of key ts
 deficit-push key [] p h = absurd (cc)
-deficit-push key (t ∷ ts) p h =
-    by_test (eqb t.key key) (λ b. cond b true (has key ts) ≡ true → cond b t.deficit (deficit_of key (ts ++ p ∷ [])) ≡ cond b t.deficit (deficit_of key ts))
-    (λ e k. refl) (λ e k. deficit-push key ts p k) h
+deficit-push key (t ∷ ts) p h = grind (arith, nat_tests, (deficit-push key ts p))
 
 place-push-own : (key : ℕ) (ts : List Turn) (p : Turn) → has key ts ≡ false → p.key ≡ key → place_of key (ts ++ p ∷ []) ≡ length ts
 place-push-own key [] p h e = by_key p.key key (λ b. cond b 0 (suc 0) ≡ 0) (λ _. refl) (λ n. absurd (n e))
-place-push-own key (t ∷ ts) p h e =
-    by_test (eqb t.key key) (λ b. cond b true (has key ts) ≡ false → cond b 0 (suc (place_of key (ts ++ p ∷ []))) ≡ suc (length ts))
-    (λ _ k. absurd (cc)) (λ _ k. ap suc (place-push-own key ts p k e)) h
+place-push-own key (t ∷ ts) p h e = grind (arith, nat_tests, (place-push-own key ts p))
 
 pub deficit-push-own : (key : ℕ) (ts : List Turn) (p : Turn) → has key ts ≡ false → p.key ≡ key → deficit_of key (ts ++ p ∷ []) ≡ p.deficit
 deficit-push-own key [] p h e = by_key p.key key (λ b. cond b p.deficit 0 ≡ p.deficit) (λ _. refl) (λ n. absurd (n e))
-deficit-push-own key (t ∷ ts) p h e =
-    by_test (eqb t.key key) (λ b. cond b true (has key ts) ≡ false → cond b t.deficit (deficit_of key (ts ++ p ∷ [])) ≡ p.deficit)
-    (λ _ k. absurd (cc)) (λ _ k. deficit-push-own key ts p k e) h
+deficit-push-own key (t ∷ ts) p h e = grind (arith, nat_tests, (deficit-push-own key ts p))
 
 pub has-push : (key : ℕ) (ts : List Turn) (p : Turn) → has key ts ≡ true → has key (ts ++ p ∷ []) ≡ true
 has-push key [] p h = absurd (cc)
@@ -93,9 +80,7 @@ has-push-own key (t ∷ ts) p e = by_test (eqb t.key key) (λ b. cond b true (ha
 
 place_below : (key : ℕ) (ts : List Turn) → has key ts ≡ true → place_of key ts < length ts
 place_below key [] h = absurd (cc)
-place_below key (t ∷ ts) h =
-    by_test (eqb t.key key) (λ b. cond b true (has key ts) ≡ true → cond b 0 (suc (place_of key ts)) < suc (length ts))
-    (λ _ k. omega arith) (λ _ k. omega (arith, place_below key ts k)) h
+place_below key (t ∷ ts) h = grind (arith, nat_tests, (place_below key ts))
 
 -- ## a front that is to get the quantum
 
@@ -105,88 +90,39 @@ ahead_unfilled l key r ts = other_deficits key ts + r + (place_of key ts + (div_
 
 ahead-refill : (l : DrrLimits) (key r : ℕ) (ts : List Turn) → 1 ≤ l.quantum → has key ts ≡ true → ahead l key r (refill l.quantum ts) ≡ ahead_unfilled l key r ts
 ahead-refill l key r [] n h = absurd (cc)
-ahead-refill l key r (p ∷ ps) n h =
-    by_test (eqb p.key key) (λ b.
-    cond b 0 (p.deficit + l.quantum) + other_deficits key ps + r + quanta_before (l.queues - 1) (cond b 0 (suc (place_of key ps))) (div_ceil (r - cond b (p.deficit + l.quantum) (deficit_of key ps)) l.quantum) * l.quantum
-    ≡ cond b 0 p.deficit + other_deficits key ps + r + (cond b 0 (suc (place_of key ps)) + (div_ceil (r - cond b p.deficit (deficit_of key ps)) l.quantum - 1) * (l.queues - 1)) * l.quantum)
-    (λ _. ap (λ z. 0 + other_deficits key ps + r + (z * (l.queues - 1)) * l.quantum) (later_turns r p.deficit l.quantum n)
-    ∙ same_lap (0 + other_deficits key ps) r (div_ceil (r - p.deficit) l.quantum - 1) l.quantum (l.queues - 1))
-    (λ _. next_lap p.deficit (other_deficits key ps) r (place_of key ps) ((div_ceil (r - deficit_of key ps) l.quantum - 1) * (l.queues - 1)) l.quantum)
+ahead-refill l key r (p ∷ ps) n h = grind (arith, nat_tests, later_turns r p.deficit l.quantum n, same_lap, next_lap p.deficit (other_deficits key ps) r (place_of key ps) ((div_ceil (r - deficit_of key ps) l.quantum - 1) * (l.queues - 1)) l.quantum)
 
 -- ## a take
 
 -- a front that isn't the key's adds its deficit
 ahead_behind : (l : DrrLimits) (key r : ℕ) (p : Turn) (ps : List Turn) → (p.key ≡ key → ⊥) → ahead l key r (p ∷ ps) ≡ p.deficit + ahead_unfilled l key r ps
-ahead_behind l key r p ps n =
-    by_key p.key key (λ b.
-    cond b 0 p.deficit + other_deficits key ps + r + quanta_before (l.queues - 1) (cond b 0 (suc (place_of key ps))) (div_ceil (r - cond b p.deficit (deficit_of key ps)) l.quantum) * l.quantum
-    ≡ p.deficit + ahead_unfilled l key r ps)
-    (λ e. absurd (n e))
-    (λ _. omega arith)
+ahead_behind l key r p ps n = grind (arith, nat_tests)
 
 -- the key's own turn at the front
 ahead_own : (l : DrrLimits) (key r : ℕ) (p : Turn) (ps : List Turn) → p.key ≡ key → ahead l key r (p ∷ ps) ≡ other_deficits key ps + r + (div_ceil (r - p.deficit) l.quantum * (l.queues - 1)) * l.quantum
-ahead_own l key r p ps e =
-    by_key p.key key (λ b.
-    cond b 0 p.deficit + other_deficits key ps + r + quanta_before (l.queues - 1) (cond b 0 (suc (place_of key ps))) (div_ceil (r - cond b p.deficit (deficit_of key ps)) l.quantum) * l.quantum
-    ≡ other_deficits key ps + r + (div_ceil (r - p.deficit) l.quantum * (l.queues - 1)) * l.quantum)
-    (λ _. omega arith)
-    (λ n. absurd (n e))
+ahead_own l key r p ps e = grind (arith, nat_tests)
 
 unfilled-push : (l : DrrLimits) (key r : ℕ) (ts : List Turn) (p : Turn) → (p.key ≡ key → ⊥) → has key ts ≡ true → ahead_unfilled l key r (ts ++ p ∷ []) ≡ p.deficit + ahead_unfilled l key r ts
-unfilled-push l key r ts p n h =
-    rw (place-push key ts p h, deficit-push key ts p h)
-    (let o : other_deficits key (ts ++ p ∷ []) ≡ other_deficits key ts + p.deficit = other-push key ts p ∙ by_key p.key key (λ b. other_deficits key ts + cond b 0 p.deficit ≡ other_deficits key ts + p.deficit) (λ e. absurd (n e)) (λ _. refl) in
-    omega (arith, o))
+unfilled-push l key r ts p n h = grind (arith, nat_tests, place-push key ts p h, deficit-push key ts p h, other-push key ts p)
 
 unfilled-push-own : (l : DrrLimits) (key r : ℕ) (ts : List Turn) (p : Turn) → p.key ≡ key → has key ts ≡ false
     → ahead_unfilled l key r (ts ++ p ∷ []) ≡ other_deficits key ts + r + (length ts + (div_ceil (r - p.deficit) l.quantum - 1) * (l.queues - 1)) * l.quantum
-unfilled-push-own l key r ts p e h =
-    rw (place-push-own key ts p h e, deficit-push-own key ts p h e)
-    (let o : other_deficits key (ts ++ p ∷ []) ≡ other_deficits key ts = other-push key ts p ∙ by_key p.key key (λ b. other_deficits key ts + cond b 0 p.deficit ≡ other_deficits key ts) (λ _. omega arith) (λ n. absurd (n e)) in
-    omega (arith, o))
+unfilled-push-own l key r ts p e h = grind (arith, nat_tests, place-push-own key ts p h e, deficit-push-own key ts p h e, other-push key ts p)
 
 pub has-refill : (key quantum : ℕ) (ts : List Turn) → has key (refill quantum ts) ≡ has key ts
-has-refill key quantum [] = refl
-has-refill key quantum (t ∷ ts) = refl
+has-refill key quantum ts = grind (arith, nat_tests)
 
 module _ (l : DrrLimits) where
   -- a take of another's bytes
   pub falls_other : (key r n : ℕ) (next : Option ℕ) (t : Turn) (ts : List Turn) → 1 ≤ l.quantum → (t.key ≡ key → ⊥) → has key ts ≡ true → n ≤ t.deficit
       → ahead l key r (settle l.quantum next (turn t.key (t.deficit - n)) ts) + n ≤ ahead l key r (t ∷ ts)
-  falls_other key r n None t ts q m h c = omega (arith, ahead-refill l key r ts q h, ahead_behind l key r t ts m)
-  falls_other key r n (Some y) t ts q m h c =
-      let p : Turn = turn t.key (t.deficit - n) in
-      elim (leb_tells (suc (t.deficit - n)) y) [
-        | inl w ↦ subst (λ b. ahead l key r (cond b (refill l.quantum (ts ++ p ∷ [])) (p ∷ ts)) + n ≤ ahead l key r (t ∷ ts)) (sym w.0)
-            (omega (arith, ahead-refill l key r (ts ++ p ∷ []) q (has-push key ts p h), unfilled-push l key r ts p m h, ahead_behind l key r t ts m))
-        | inr w ↦ subst (λ b. ahead l key r (cond b (refill l.quantum (ts ++ p ∷ [])) (p ∷ ts)) + n ≤ ahead l key r (t ∷ ts)) (sym w.0)
-            (omega (arith, ahead_behind l key r p ts m, ahead_behind l key r t ts m))
-      ]
+  falls_other key r n next t ts q m h c = grind (arith, nat_tests, ahead-refill, ahead_behind, has-push, unfilled-push)
 
   -- a take of its own, where what it sends next is among what is left
   pub falls_own : (r left n : ℕ) (next : Option ℕ) (t : Turn) (ts : List Turn) → 1 ≤ l.quantum → has t.key ts ≡ false → length ts ≤ l.queues - 1 → n ≤ t.deficit → n + left ≡ r
       → ((y : ℕ) → next ≡ Some y → y ≤ left) → has t.key (settle l.quantum next (turn t.key (t.deficit - n)) ts) ≡ true
       → ahead l t.key left (settle l.quantum next (turn t.key (t.deficit - n)) ts) + n ≤ ahead l t.key r (t ∷ ts)
-  falls_own r left n None t ts q h w c s m k = absurd (let g = sym (has-refill t.key l.quantum ts) ∙ k in cc)
-  falls_own r left n (Some y) t ts q h w c s m k =
-      let p : Turn = turn t.key (t.deficit - n) in
-      let own = ahead_own l t.key r t ts refl in
-      let next : y ≤ left = m y refl in
-      let same : left - (t.deficit - n) ≡ r - t.deficit = omega arith in
-      elim (leb_tells (suc (t.deficit - n)) y) [
-        | inl z ↦ subst (λ b. ahead l t.key left (cond b (refill l.quantum (ts ++ p ∷ [])) (p ∷ ts)) + n ≤ ahead l t.key r (t ∷ ts)) (sym z.0)
-            (let a = ahead-refill l t.key left (ts ++ p ∷ []) q (has-push-own t.key ts p refl) in
-            let b = unfilled-push-own l t.key left ts p refl h in
-            let some : 1 ≤ div_ceil (r - t.deficit) l.quantum = ceil_some (r - t.deficit) l.quantum q (omega (arith, z.1)) in
-            let lap = round_le (length ts) (div_ceil (r - t.deficit) l.quantum) (l.queues - 1) l.quantum some w in
-            let turns = ap (λ z. (length ts + (div_ceil z l.quantum - 1) * (l.queues - 1)) * l.quantum) same in
-            omega (arith, a, b, lap, turns, own))
-        | inr z ↦ subst (λ b. ahead l t.key left (cond b (refill l.quantum (ts ++ p ∷ [])) (p ∷ ts)) + n ≤ ahead l t.key r (t ∷ ts)) (sym z.0)
-            (let a = ahead_own l t.key left p ts refl in
-            let turns = ap (λ z. (div_ceil z l.quantum * (l.queues - 1)) * l.quantum) same in
-            omega (arith, a, turns, own))
-      ]
+  falls_own r left n next t ts q h w c s m k = grind (arith, nat_tests, has-refill, ahead_own, leb_tells, ahead-refill, has-push-own, unfilled-push-own, div_ceil, ceil_some, round_le)
 
   -- what the front sends is ahead, where it is the key's own among what the key has yet to send
   pub front_ahead : (key r n : ℕ) (t : Turn) (ts : List Turn) → n ≤ t.deficit → (t.key ≡ key → n ≤ r) → n ≤ ahead l key r (t ∷ ts)
@@ -195,24 +131,15 @@ module _ (l : DrrLimits) where
   -- a key that joins leaves the measure of one that is there
   other-join : (key k : ℕ) (ts : List Turn) → other_deficits key (join 0 k ts) ≡ other_deficits key ts
   other-join key k [] = by_test (eqb k key) (λ b. cond b 0 0 + 0 ≡ 0) (λ _. refl) (λ _. refl)
-  other-join key k (p ∷ ps) =
-      by_test (eqb p.key k) (λ b. other_deficits key (cond b (p ∷ ps) (p ∷ join 0 k ps)) ≡ other_deficits key (p ∷ ps))
-      (λ _. refl) (λ _. ap (λ z. cond (eqb p.key key) 0 p.deficit + z) (other-join key k ps))
+  other-join key k (p ∷ ps) = grind (arith, nat_tests, (other-join key k ps))
 
   pub place-join : (key start k : ℕ) (ts : List Turn) → has key ts ≡ true → (place_of key (join start k ts) ≡ place_of key ts) × (deficit_of key (join start k ts) ≡ deficit_of key ts)
   place-join key start k [] h = absurd (cc)
-  place-join key start k (p ∷ ps) h =
-      by_test (eqb p.key k) (λ b. (place_of key (cond b (p ∷ ps) (p ∷ join 0 k ps)) ≡ place_of key (p ∷ ps)) × (deficit_of key (cond b (p ∷ ps) (p ∷ join 0 k ps)) ≡ deficit_of key (p ∷ ps)))
-      (λ _. (refl, refl))
-      (λ _. by_test (eqb p.key key) (λ b. cond b true (has key ps) ≡ true → (cond b 0 (suc (place_of key (join 0 k ps))) ≡ cond b 0 (suc (place_of key ps))) × (cond b p.deficit (deficit_of key (join 0 k ps)) ≡ cond b p.deficit (deficit_of key ps)))
-      (λ _ w. (refl, refl))
-      (λ _ w. let r = place-join key 0 k ps w in (ap suc r.0, r.1)) h)
+  place-join key start k (p ∷ ps) h = grind (arith, nat_tests, place-join key 0 k ps)
 
   other-join-front : (key start k : ℕ) (ts : List Turn) → has key ts ≡ true → other_deficits key (join start k ts) ≡ other_deficits key ts
   other-join-front key start k [] h = absurd (cc)
-  other-join-front key start k (p ∷ ps) h =
-      by_test (eqb p.key k) (λ b. other_deficits key (cond b (p ∷ ps) (p ∷ join 0 k ps)) ≡ other_deficits key (p ∷ ps))
-      (λ _. refl) (λ _. ap (λ z. cond (eqb p.key key) 0 p.deficit + z) (other-join key k ps))
+  other-join-front key start k (p ∷ ps) h = grind (arith, nat_tests, other-join key k ps)
 
   pub ahead-join : (key r start k : ℕ) (ts : List Turn) → has key ts ≡ true → ahead l key r (join start k ts) ≡ ahead l key r ts
   ahead-join key r start k ts h = let p = place-join key start k ts h in rw (p.0, p.1, other-join-front key start k ts h) refl
@@ -230,10 +157,7 @@ module _ (l : DrrLimits) where
 
   other_some : (key : ℕ) (ts : List Turn) → AllByRecursion (λ (t : Turn). t.deficit < l.max) ts → has key ts ≡ true → other_deficits key ts + l.max ≤ length ts * l.max
   other_some key [] b h = absurd (cc)
-  other_some key (p ∷ ps) b h =
-      by_test (eqb p.key key) (λ t. cond t true (has key ps) ≡ true → cond t 0 p.deficit + other_deficits key ps + l.max ≤ length (p ∷ ps) * l.max)
-      (λ _ w. omega (arith, other_all key ps b.1, add-mul (length ps) 1 l.max))
-      (λ _ w. omega (arith, b.0, other_some key ps b.1 w, add-mul (length ps) 1 l.max)) h
+  other_some key (p ∷ ps) b h = grind (arith, nat_tests, other_all key ps b.1, other_some key ps b.1, add-mul (length ps) 1 l.max)
 
   most_own : (key r : ℕ) (t : Turn) (ts : List Turn) → 1 ≤ l.quantum → Stand (t ∷ ts) → t.key ≡ key → ahead l key r (t ∷ ts) ≤ most_until l r
   most_own key r q qs n f e =
@@ -258,12 +182,7 @@ module _ (l : DrrLimits) where
       omega (arith, a, o, w, u, t, x, f.1, most_is (l.queues - 1) (div_ceil r l.quantum) l.quantum l.max)
 
   pub most : (key r : ℕ) (ts : List Turn) → 1 ≤ l.quantum → Stand ts → has key ts ≡ true → 1 ≤ r → ahead l key r ts ≤ most_until l r
-  most key r [] n f h s = absurd (cc)
-  most key r (t ∷ ts) n f h s =
-      by_key t.key key (λ b. (eqb t.key key ≡ b) → ahead l key r (t ∷ ts) ≤ most_until l r)
-      (λ e _. most_own key r t ts n f e)
-      (λ m t'. most_other key r t ts n f m (subst (λ b. cond b true (has key ts) ≡ true) t' h) s)
-      refl
+  most key r ts n f h s = grind (arith, nat_tests, most_own, most_other)
 
 -- ## queues
 
@@ -273,22 +192,15 @@ module _ {T : Type 0} where
   has-turns key (q ∷ qs) = ap (λ z. cond (eqb q.key key) true z) (has-turns key qs)
 
   turns-refilled : (quantum : ℕ) (qs : List (Queue T)) → turns_of (refilled quantum qs) ≡ refill quantum (turns_of qs)
-  turns-refilled quantum [] = refl
-  turns-refilled quantum (q ∷ qs) = refl
+  turns-refilled quantum qs = grind (arith, nat_tests)
 
   pub turns-put : (start key : ℕ) (x : T) (qs : List (Queue T)) → turns_of (put start key x qs) ≡ join start key (turns_of qs)
   turns-put start key x [] = refl
-  turns-put start key x (q ∷ qs) =
-      by_test (eqb q.key key) (λ b. turns_of (cond b (queue q.key q.deficit (q.items ++ x ∷ []) ∷ qs) (q ∷ put 0 key x qs)) ≡ cond b (turns_of (q ∷ qs)) (turn q.key q.deficit ∷ join 0 key (turns_of qs)))
-      (λ _. refl) (λ _. ap (λ z. turn q.key q.deficit ∷ z) (turns-put 0 key x qs))
+  turns-put start key x (q ∷ qs) = grind (arith, nat_tests, turns-put 0 key x qs)
 
   module _ (measure : T → ℕ) (l : DrrLimits) where
     turns-settled : (k d : ℕ) (xs : List T) (qs : List (Queue T)) → turns_of (settled measure l.quantum k d xs qs) ≡ settle l.quantum (option_map measure (first xs)) (turn k d) (turns_of qs)
-    turns-settled k d [] qs = turns-refilled l.quantum qs
-    turns-settled k d (x ∷ xs) qs =
-        let p : Queue T = queue k d (x ∷ xs) in
-        by_test (leb (suc d) (measure x)) (λ b. turns_of (cond b (refilled l.quantum (qs ++ p ∷ [])) (p ∷ qs)) ≡ cond b (refill l.quantum (turns_of qs ++ turn k d ∷ [])) (turn k d ∷ turns_of qs))
-        (λ _. turns-refilled l.quantum (qs ++ p ∷ []) ∙ ap (λ z. refill l.quantum z) (map_push (λ (q : Queue T). turn q.key q.deficit) qs p)) (λ _. refl)
+    turns-settled k d xs qs = grind (arith, nat_tests, turns-refilled, map_push)
 
     -- the length of what a front sends next, after its take
     abbrev pub later : List T → Option ℕ
@@ -300,12 +212,10 @@ module _ {T : Type 0} where
     turns-taken k d (x ∷ xs) qs = turns-settled k (d - measure x) xs qs
 
     pub first_covered : (k d : ℕ) (xs : List T) (rest : List (Queue T)) → AreFair measure l (queue k d xs ∷ rest) → first_bytes measure xs ≤ d
-    first_covered k d [] rest f = omega arith
-    first_covered k d (x ∷ xs) rest f = f.turn.0
+    first_covered k d xs rest f = grind (arith, nat_tests)
 
     first_left : (xs : List T) (y left : ℕ) → option_map measure (first xs) ≡ Some y → first_bytes measure xs ≤ left → y ≤ left
-    first_left [] y left e h = absurd (cc)
-    first_left (x ∷ xs) y left e h = let s : measure x ≡ y = cc in omega (arith, h, s)
+    first_left xs y left e h = grind (arith, nat_tests)
 
     taken_own : (r left k d : ℕ) (xs : List T) (rest : List (Queue T)) → AreDrrLimits l → AreFair measure l (queue k d xs ∷ rest) → first_bytes measure xs + left ≡ r
         → has_key k (front_settled measure l.quantum (popped measure k d xs ∷ rest)) ≡ true → first_bytes measure (items_of k (front_settled measure l.quantum (popped measure k d xs ∷ rest))) ≤ left
@@ -323,17 +233,7 @@ module _ {T : Type 0} where
     pub taken_falls : (key r left : ℕ) (qs : List (Queue T)) → AreDrrLimits l → AreFair measure l qs → has_key key qs ≡ true → has_key key (taken measure l.quantum qs) ≡ true → IsLeft measure l key r left qs
         → bytes_ahead l key left (taken measure l.quantum qs) + head_bytes measure qs ≤ bytes_ahead l key r qs
     taken_falls key r left [] v f h w m = absurd (cc)
-    taken_falls key r left (q ∷ qs) v f h w m =
-        by_key q.key key (λ b. (eqb q.key key ≡ b) → MatchBool b ((head_bytes measure (q ∷ qs) + left ≡ r) × (first_bytes measure (items_of key (taken measure l.quantum (q ∷ qs))) ≤ left)) (left ≡ r)
-        → bytes_ahead l key left (taken measure l.quantum (q ∷ qs)) + head_bytes measure (q ∷ qs) ≤ bytes_ahead l key r (q ∷ qs))
-        (λ e _ k. subst (λ z. has_key z (taken measure l.quantum (q ∷ qs)) ≡ true → first_bytes measure (items_of z (taken measure l.quantum (q ∷ qs))) ≤ left
-        → bytes_ahead l z left (taken measure l.quantum (q ∷ qs)) + head_bytes measure (q ∷ qs) ≤ bytes_ahead l z r (q ∷ qs)) e (λ a b. taken_own r left q.key q.deficit q.items qs v f k.0 a b) w k.1)
-        (λ n t k.
-        let there : has_key key qs ≡ true = subst (λ b. cond b true (has_key key qs) ≡ true) t h in
-        subst (λ z. ahead l key left z + head_bytes measure (q ∷ qs) ≤ bytes_ahead l key r (q ∷ qs)) (sym (turns-taken q.key q.deficit q.items qs))
-        (subst (λ z. ahead l key z (settle l.quantum (later q.items) (turn q.key (q.deficit - first_bytes measure q.items)) (turns_of qs)) + head_bytes measure (q ∷ qs) ≤ bytes_ahead l key r (q ∷ qs)) (sym k)
-        (falls_other l key r (head_bytes measure (q ∷ qs)) (later q.items) (turn q.key q.deficit) (turns_of qs) (omega (arith, v.quantum, v.max)) n (has-turns key qs ∙ there) (first_covered q.key q.deficit q.items qs f))))
-        refl m
+    taken_falls key r left (q ∷ qs) v f h w m = grind (arith, nat_tests, taken_own r left q.key q.deficit q.items qs v f, turns-taken q.key q.deficit q.items qs, falls_other l key r (head_bytes measure (q ∷ qs)) (later q.items) (turn q.key q.deficit) (turns_of qs), has-turns key qs, first_covered q.key q.deficit q.items qs f)
 
     -- an item that is put leaves the measure
     pub ahead-put : (key r start k : ℕ) (x : T) (qs : List (Queue T)) → has_key key qs ≡ true → bytes_ahead l key r (put start k x qs) ≡ bytes_ahead l key r qs
@@ -347,8 +247,7 @@ module _ {T : Type 0} where
     behind_turns (q ∷ qs) b = (b.0, behind_turns qs b.1)
 
     pub stand : (qs : List (Queue T)) → AreFair measure l qs → Stand l (turns_of qs)
-    stand [] f = tt
-    stand (q ∷ qs) f = (omega (arith, f.few, length-map qs (λ (q : Queue T). turn q.key q.deficit)), f.turn.1, behind_turns qs f.turn.2)
+    stand qs f = grind (arith, nat_tests, length-map, behind_turns)
 
     -- just after an item was queued, the measure of what its queue has up to it is at most the bound
     pub ahead_most : (key r : ℕ) (qs : List (Queue T)) → AreDrrLimits l → AreFair measure l qs → has_key key qs ≡ true → 1 ≤ r → bytes_ahead l key r qs ≤ most_until l r
@@ -356,6 +255,4 @@ module _ {T : Type 0} where
 
     -- the next item is among what may go, where it is the key's own among what the key has yet to send
     pub head_ahead : (key r : ℕ) (qs : List (Queue T)) → AreFair measure l qs → (is_front key qs ≡ true → head_bytes measure qs ≤ r) → head_bytes measure qs ≤ bytes_ahead l key r qs
-    head_ahead key r [] f h = omega arith
-    head_ahead key r (q ∷ qs) f h = front_ahead l key r (head_bytes measure (q ∷ qs)) (turn q.key q.deficit) (turns_of qs) (first_covered q.key q.deficit q.items qs f)
-        (λ e. h (by_key q.key key (λ b. b ≡ true) (λ _. refl) (λ n. absurd (n e))))
+    head_ahead key r qs f h = grind (arith, nat_tests, front_ahead, first_covered)

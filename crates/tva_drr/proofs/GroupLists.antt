@@ -3,12 +3,10 @@ use Rattle.tva_drr.proofs.Common.{◌≡◌, ℕ, ◌+◌, ◌<◌, ◌≤◌, B
 use Rattle.tva_drr.proofs.Lists.{by_key, leaves_queued}
 
 pub none_true : (a b : Bool) → (a || b) ≡ false → (a ≡ false) × (b ≡ false)
-none_true true b h = absurd (cc)
-none_true false b h = (refl, h)
+none_true a b h = grind (arith, nat_tests)
 
 pub or_false : (a b : Bool) → b ≡ false → (a || b) ≡ a
-or_false true b e = refl
-or_false false b e = e
+or_false a b e = grind (arith, nat_tests)
 
 module _ {T : Type 0} where
   pub has_group-push : (key : ℕ) (gs : List (Group T)) (g : Group T) → has_group key gs ≡ false → eqb g.key key ≡ false

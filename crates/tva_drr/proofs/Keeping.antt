@@ -6,27 +6,22 @@ use Rattle.tva_drr.proofs.GroupLists.{none_true, has_group-push, has_group-chang
 -- ## the limits of one group
 
 pub limits_inner : (l : DrrLimits) (inner : ℕ) → AreDrrLimits l → (1 ≤ inner) × (inner ≤ 2 ^ 30) → AreDrrLimits (inner_limits l inner)
-limits_inner l inner a i =
-    record { queues = i; ring = a.ring; queue_bytes = a.queue_bytes; class_bytes = a.class_bytes; max = a.max; quantum = a.quantum }
+limits_inner l inner a i = grind (arith, nat_tests)
 
 module _ {T : Type 0} (measure : T → ℕ) where
   -- ## what fair queues send next
 
   first_some : (xs : List T) (x : T) → first xs ≡ Some x → first_bytes measure xs ≡ measure x
-  first_some [] x h = absurd (cc)
-  first_some (y ∷ ys) x h = cc
+  first_some xs x h = grind (arith, nat_tests)
 
   pub head_some : (qs : List (Queue T)) (x : T) → head qs ≡ Some x → head_bytes measure qs ≡ measure x
-  head_some [] x h = absurd (cc)
-  head_some (q ∷ qs) x h = first_some q.items x h
+  head_some qs x h = grind (arith, nat_tests, first_some)
 
   first_most : (m : DrrLimits) (xs : List T) → AreMeasured measure m xs → first_bytes measure xs ≤ m.max
-  first_most m [] h = omega arith
-  first_most m (x ∷ xs) h = h.0.1
+  first_most m xs h = grind (arith, nat_tests)
 
   pub head_most : (m : DrrLimits) (qs : List (Queue T)) → AreQueues measure m qs → head_bytes measure qs ≤ m.max
-  head_most m [] h = omega arith
-  head_most m (q ∷ qs) h = first_most m q.items h.0.measured
+  head_most m qs h = grind (arith, nat_tests, first_most)
 
   first_there : (xs : List T) → 1 ≤ length xs → (x : T) × ((first xs ≡ Some x) × (first_bytes measure xs ≡ measure x))
   first_there [] h = absurd (omega arith)
@@ -49,15 +44,13 @@ module _ {T : Type 0} (measure : T → ℕ) where
   -- an item that is put behind others isn't sent next
   pub head-put : (m : DrrLimits) (start key : ℕ) (x : T) (qs : List (Queue T)) → AreQueues measure m qs → 1 ≤ length qs
       → head_bytes measure (put start key x qs) ≡ head_bytes measure qs
-  head-put m start key x [] a h = absurd (omega arith)
-  head-put m start key x (q ∷ qs) a h = grind (arith, nat_tests, first-push q.items x a.0.filled)
+  head-put m start key x qs a h = grind (arith, nat_tests, first-push)
 
   module _ (l : DrrLimits) (inner : ℕ) where
     -- ## an offer
 
     pub inner_empty : AreDrrLimits l → (1 ≤ inner) × (inner ≤ 2 ^ 30) → IsFair measure (fair (inner_limits l inner) [])
-    inner_empty a i =
-        record { limits = limits_inner l inner a i; queues = record { few = omega arith; each = tt; turn = tt; bytes = omega arith } }
+    inner_empty a i = grind (arith, nat_tests, limits_inner)
 
     pub inner_of : (key : ℕ) (gs : List (Group T)) → AreDrrLimits l → (1 ≤ inner) × (inner ≤ 2 ^ 30) → AreGroups measure l inner gs
         → ((queues_of (inner_limits l inner) key gs).limits ≡ inner_limits l inner)
@@ -96,8 +89,7 @@ module _ {T : Type 0} (measure : T → ℕ) where
         → head_bytes measure (change (queues_of (inner_limits l inner) outer gs)).queues
         ≤ head_bytes measure (queues_of (inner_limits l inner) outer gs).queues) → HasGroupTurn measure l inner gs
         → HasGroupTurn measure l inner (changed change (inner_limits l inner) l.quantum outer gs)
-    turn-changed change outer [] m new old h = (new refl, omega arith, tt)
-    turn-changed change outer (p ∷ gs) m new old h = grind (arith, nat_tests, behind-changed change outer gs m h.2)
+    turn-changed change outer gs m new old h = grind (arith, nat_tests, behind-changed)
 
     few-changed : (change : Fair T → Fair T) (start outer : ℕ) (gs : List (Group T)) → lacks_group (hier l inner gs) outer ≡ false
         → length gs ≤ l.queues → length (changed change (inner_limits l inner) start outer gs) ≤ l.queues
@@ -164,8 +156,7 @@ module _ {T : Type 0} (measure : T → ℕ) where
     hier-refilled : (gs : List (Group T)) → AreDrrLimits l → length gs ≤ l.queues → AreGroups measure l inner gs
         → AreGroupsBehind measure l inner gs → all_group_bytes measure gs ≤ l.class_bytes
         → AreHier measure l inner (group_refilled l.quantum gs)
-    hier-refilled [] v n h b s = record { few = n; each = tt; turn = tt; bytes = s }
-    hier-refilled (p ∷ gs) v n h b s = grind (arith, nat_tests, sum_by-cons (group_bytes measure) p gs, sum_by-cons (group_bytes measure) (group p.key (p.deficit + l.quantum) p.queues) gs, next_most p.queues h.0)
+    hier-refilled gs v n h b s = grind (arith, nat_tests, sum_by-cons, next_most)
 
     hier-settled : (key deficit : ℕ) (m : DrrLimits) (qs : List (Queue T)) (gs : List (Group T)) → AreDrrLimits l
         → m ≡ inner_limits l inner → IsFair measure (fair m qs) → length gs + 1 ≤ l.queues → AreGroups measure l inner gs
@@ -200,8 +191,7 @@ module _ {T : Type 0} (measure : T → ℕ) where
 
     groups_room : (gs : List (Group T)) → AreDrrLimits l → AreHier measure l inner gs
         → AllByRecursion (λ g. g.deficit + l.quantum < 2 ^ 32) (front_popped measure gs)
-    groups_room [] v h = tt
-    groups_room (g ∷ gs) v h = (omega (arith, h.turn.1, v.quantum), groups_behind-room gs v h.turn.2)
+    groups_room gs v h = grind (arith, nat_tests, groups_behind-room)
 
     pub all_groups_room : (gs : List (Group T)) → AreDrrLimits l → AreHier measure l inner gs
         → All (λ g. g.deficit + l.quantum < 2 ^ 32) (front_popped measure gs)
@@ -209,8 +199,7 @@ module _ {T : Type 0} (measure : T → ℕ) where
 
     -- the bytes of an item that goes
     bytes-refilled : (gs : List (Group T)) → all_group_bytes measure (group_refilled l.quantum gs) ≡ all_group_bytes measure gs
-    bytes-refilled [] = refl
-    bytes-refilled (g ∷ gs) = grind (arith, nat_tests, sum_by-cons (group_bytes measure) g gs, sum_by-cons (group_bytes measure) (group g.key (g.deficit + l.quantum) g.queues) gs)
+    bytes-refilled gs = grind (arith, nat_tests, sum_by-cons)
 
     bytes-settled : (key deficit : ℕ) (m : DrrLimits) (qs : List (Queue T)) (gs : List (Group T))
         → all_group_bytes measure (group_settled measure l.quantum (group key deficit (fair m qs)) qs gs)
@@ -227,8 +216,4 @@ module _ {T : Type 0} (measure : T → ℕ) where
     pub keeps-groups_taken : (b : ℕ) (gs : List (Group T)) (x : T) → IsHier measure (hier l inner gs) → b ≡ all_group_bytes measure gs
         → next gs ≡ Some x → IsHier measure (hier l inner (groups_taken measure l.quantum gs))
         × (b - measure x ≡ all_group_bytes measure (groups_taken measure l.quantum gs))
-    keeps-groups_taken b gs x h e f = (
-      record { limits = h.limits; inner = h.inner; groups = hier-taken gs h.limits h.groups },
-      omega
-          (arith, bytes-taken gs x f, e),
-    )
+    keeps-groups_taken b gs x h e f = grind (arith, nat_tests, (hier-taken gs h.limits h.groups), (bytes-taken gs x f))

@@ -29,19 +29,13 @@ module _ {T : Type 0} where
 
   pub items_of_at : (key : ℕ) (qs : List (Queue T)) (at : ℕ) (q : Queue T) → at < length qs → has_key key (take at qs) ≡ false → q ≡ get_or qs at q → q.key ≡ key → items_of key qs ≡ q.items
   items_of_at key [] at q n h s e = absurd (omega arith)
-  items_of_at key (p ∷ qs) zero q n h s e =
-      let k : p.key ≡ key = ap (λ (r : Queue T). r.key) (sym s) ∙ e in
-      let i : p.items ≡ q.items = ap (λ (r : Queue T). r.items) (sym s) in
-      grind (arith, nat_tests)
+  items_of_at key (p ∷ qs) zero q n h s e = grind (arith, nat_tests)
   items_of_at key (p ∷ qs) (suc i) q n h s e = grind (arith, items_of_at key qs i q)
 
   pub put_at : (first key : ℕ) (item : T) (qs : List (Queue T)) (at : ℕ) (q : Queue T) → at < length qs → has_key key (take at qs) ≡ false → q ≡ get_or qs at q → q.key ≡ key
       → put first key item qs ≡ set qs at (queue q.key q.deficit (q.items ++ item ∷ []))
   put_at first key item [] at q n h s e = absurd (omega arith)
-  put_at first key item (p ∷ qs) zero q n h s e =
-      by_key p.key key (λ b. cond b (queue p.key p.deficit (p.items ++ item ∷ []) ∷ qs) (p ∷ put 0 key item qs) ≡ queue q.key q.deficit (q.items ++ item ∷ []) ∷ qs)
-      (λ k. ap (λ (r : Queue T). queue r.key r.deficit (r.items ++ item ∷ []) ∷ qs) (sym s))
-      (λ k. absurd (k (ap (λ (r : Queue T). r.key) (sym s) ∙ e)))
+  put_at first key item (p ∷ qs) zero q n h s e = grind (arith, nat_tests)
   put_at first key item (p ∷ qs) (suc i) q n h s e = grind (arith, put_at 0 key item qs i q)
 
   pub items_of_none : (key : ℕ) (qs : List (Queue T)) → has_key key qs ≡ false → items_of key qs ≡ []
@@ -59,25 +53,16 @@ module _ {T : Type 0} where
   -- an item put adds its bytes
   pub all_bytes-put : (measure : T → ℕ) (first key : ℕ) (item : T) (qs : List (Queue T)) → all_bytes measure (put first key item qs) ≡ all_bytes measure qs + measure item
   all_bytes-put measure first key item [] = omega arith
-  all_bytes-put measure first key item (p ∷ qs) =
-      by_key p.key key (λ b. all_bytes measure (cond b (queue p.key p.deficit (p.items ++ item ∷ []) ∷ qs) (p ∷ put 0 key item qs)) ≡ all_bytes measure (p ∷ qs) + measure item)
-      (λ e. omega (arith, sum_by-cons (queue_bytes measure) p qs, sum_by-cons (queue_bytes measure) (queue p.key p.deficit (p.items ++ item ∷ [])) qs, sum_by_push measure p.items item))
-      (λ e. omega (arith, sum_by-cons (queue_bytes measure) p qs, sum_by-cons (queue_bytes measure) p (put 0 key item qs), all_bytes-put measure 0 key item qs))
+  all_bytes-put measure first key item (p ∷ qs) = grind (arith, nat_tests, sum_by-cons (queue_bytes measure) p qs, sum_by-cons (queue_bytes measure) (queue p.key p.deficit (p.items ++ item ∷ [])) qs, sum_by_push measure p.items item, sum_by-cons (queue_bytes measure) p (put 0 key item qs), all_bytes-put measure 0 key item qs)
 
   -- an item put under one key leaves the others
   pub has_key-put : (k first key : ℕ) (item : T) (qs : List (Queue T)) → (key ≡ k → ⊥) → has_key k qs ≡ false → has_key k (put first key item qs) ≡ false
   has_key-put k first key item [] n h = grind (arith, nat_tests)
-  has_key-put k first key item (p ∷ qs) n h =
-      by_key p.key key (λ b. has_key k (cond b (queue p.key p.deficit (p.items ++ item ∷ []) ∷ qs) (p ∷ put 0 key item qs)) ≡ false)
-      (λ e. h)
-      (λ e. grind (arith, nat_tests, has_key-put k 0 key item qs n))
+  has_key-put k first key item (p ∷ qs) n h = grind (arith, nat_tests, has_key-put k 0 key item qs n)
 
   pub length-put : (first key : ℕ) (item : T) (qs : List (Queue T)) → length (put first key item qs) ≡ (cond (has_key key qs) (length qs) (length qs + 1))
   length-put first key item [] = omega arith
-  length-put first key item (p ∷ qs) =
-      by_key p.key key (λ b. length (cond b (queue p.key p.deficit (p.items ++ item ∷ []) ∷ qs) (p ∷ put 0 key item qs)) ≡ (cond (cond b true (has_key key qs)) (length (p ∷ qs)) (length (p ∷ qs) + 1)))
-      (λ e. refl)
-      (λ e. grind (arith, length-put 0 key item qs))
+  length-put first key item (p ∷ qs) = grind (arith, nat_tests, length-put 0 key item qs)
 
   -- a place is none where the key has no queue
   pub is_none-place : (key : ℕ) (qs : List (Queue T)) (at : Option ℕ) → IsPlace key qs at → is_none at ≡ not (has_key key qs)

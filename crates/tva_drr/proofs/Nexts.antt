@@ -11,14 +11,12 @@ use Rattle.tva_drr.proofs.Untils.{front_both, front_apart, front_key}
 module _ {T : Type 0} (measure : T → ℕ) (l : DrrLimits) (inner : ℕ) where
   -- the bytes of the next item
   pub next_some : (gs : List (Group T)) (x : T) → next gs ≡ Some x → next_bytes measure gs ≡ measure x
-  next_some [] x e = absurd (cc)
-  next_some (g ∷ gs) x e = head_some measure g.queues.queues x e
+  next_some gs x e = grind (arith, nat_tests, head_some)
 
   -- where there are groups there is a next item
   pub next_there : (gs : List (Group T)) → IsHier measure (hier l inner gs) → 1 ≤ length gs
       → (x : T) × ((next gs ≡ Some x) × (next_bytes measure gs ≡ measure x))
-  next_there [] h n = absurd (omega arith)
-  next_there (g ∷ gs) h n = grind (arith, nat_tests, head_there measure g.queues.limits g.queues.queues)
+  next_there gs h n = grind (arith, nat_tests, head_there)
 
   -- where something waits under two keys there are groups
   pub groups_there : (outer key : ℕ) (gs : List (Group T))
@@ -78,5 +76,4 @@ module _ {T : Type 0} (measure : T → ℕ) (l : DrrLimits) (inner : ℕ) where
       → has_key key (queues_of (inner_limits l inner) outer gs).queues ≡ true
       → first_bytes measure (items_under (hier l inner gs) outer key) ≤ bytes
       → next_bytes measure gs ≤ bytes_ahead_under (hier l inner gs) outer key bytes
-  next_ahead outer key bytes [] h t n = absurd (cc)
-  next_ahead outer key bytes (g ∷ gs) h t n = grind (arith, nat_tests, has_group_from, next_ahead_of measure, inner_there measure l inner outer (g ∷ gs) h.groups.each, front_ahead l outer)
+  next_ahead outer key bytes gs h t n = grind (arith, nat_tests, has_group_from, next_ahead_of, inner_there, front_ahead)

@@ -10,8 +10,7 @@ use Rattle.tva_drr.proofs.Keeping.{keeps-offered, keeps-groups_taken}
 use Rattle.tva_drr.proofs.Orders.{goes_last_under, goes_first_under}
 
 pub not_not : (b : Bool) → not (not b) ≡ b
-not_not true = refl
-not_not false = refl
+not_not b = grind (arith, nat_tests)
 
 module _ {T : Type 0} where
   module _ (measure : T → ℕ) where
@@ -85,9 +84,7 @@ module _ {T : Type 0} where
         → (b ≡ false → c ≡ false → all_group_bytes measure new ≡ all_group_bytes measure h.groups + measure x)
         → all_group_bytes measure (cond b h (cond c h (hier h.limits h.inner new))).groups
         ≡ all_group_bytes measure h.groups + added (cond b (NoQueue x) (cond c (QueueFull x) Queued)) (measure x)
-    bytes_by h outer key x true c new k = omega arith
-    bytes_by h outer key x false true new k = omega arith
-    bytes_by h outer key x false false new k = k refl refl
+    bytes_by h outer key x b c new k = grind (arith, nat_tests)
 
     pub left_bytes : (h : Hier T) (outer key : ℕ) (x : T) → IsHier measure h → (1 ≤ measure x) × (measure x ≤ h.limits.max)
         → all_group_bytes measure (left_by_offer measure h outer key x).groups

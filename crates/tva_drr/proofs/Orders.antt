@@ -1,5 +1,5 @@
 -- The items under each two keys after an offer and after a take.
-use Rattle.tva_drr.proofs.Common.{◌≡◌, ℕ, ◌-◌, Some, false, cond, eqb, List, [], ◌∷◌, ◌++◌, refl, sym, ap, ◌∙◌, subst, arith, cases_eq, nat_tests, DrrLimits, Queue, Fair, fair, items_of, head, put, lacks_queue, lacks_room, offer_leaves, taken, IsFair, GoesLast, GoesFirst, IsFront, head_bytes, Group, group, hier, inner_limits, has_group, queues_of, next, changed, group_refilled, group_settled, groups_taken, AreGroups, GoesLastUnder, GoesFirstUnder, AreFront}
+use Rattle.tva_drr.proofs.Common.{◌≡◌, ℕ, ◌-◌, Some, false, cond, eqb, List, [], ◌∷◌, ◌++◌, refl, ap, ◌∙◌, arith, cases_eq, nat_tests, DrrLimits, Queue, Fair, fair, items_of, head, put, lacks_queue, lacks_room, offer_leaves, IsFair, GoesLast, IsFront, Group, group, hier, inner_limits, has_group, queues_of, next, changed, group_refilled, group_settled, groups_taken, AreGroups, GoesLastUnder, GoesFirstUnder, AreFront}
 use Rattle.tva_drr.proofs.Lists.{by_key}
 use Rattle.tva_drr.proofs.OrderLaws.{goes_last, goes_first}
 use Rattle.tva_drr.proofs.GroupLists.{queues_of-changed, queues_of-changed_other, queues_of_none, offered_is}
@@ -30,8 +30,7 @@ module _ {T : Type 0} (measure : T → ℕ) (l : DrrLimits) (inner : ℕ) where
 
   queues_of-refilled : (m : DrrLimits) (o quantum : ℕ) (gs : List (Group T))
       → queues_of m o (group_refilled quantum gs) ≡ queues_of m o gs
-  queues_of-refilled m o quantum [] = refl
-  queues_of-refilled m o quantum (g ∷ gs) = refl
+  queues_of-refilled m o quantum gs = grind (arith, nat_tests)
 
   queues_of-push_own : (m : DrrLimits) (gs : List (Group T)) (g : Group T) → has_group g.key gs ≡ false
       → queues_of m g.key (gs ++ g ∷ []) ≡ g.queues
@@ -51,27 +50,14 @@ module _ {T : Type 0} (measure : T → ℕ) (l : DrrLimits) (inner : ℕ) where
 
   pub queues_of-settled_other : (quantum o key deficit : ℕ) (k m : DrrLimits) (qs : List (Queue T)) (gs : List (Group T)) → (key ≡ o → ⊥)
       → queues_of m o (group_settled measure quantum (group key deficit (fair k qs)) qs gs) ≡ queues_of m o gs
-  queues_of-settled_other quantum o key deficit k m [] gs n = queues_of-refilled m o quantum gs
-  queues_of-settled_other quantum o key deficit k m (q ∷ qs) gs n = grind (arith, nat_tests, queues_of-push_other m o gs, queues_of-refilled m o quantum)
+  queues_of-settled_other quantum o key deficit k m qs gs n = grind (arith, nat_tests, queues_of-refilled, queues_of-push_other)
 
   -- the front's own queues lose the item that their take gives
   served_under : (key deficit i : ℕ) (m : DrrLimits) (qs : List (Queue T)) (gs : List (Group T)) (x : T) → m ≡ inner_limits l inner
       → IsFair measure (fair m qs) → has_group key gs ≡ false → IsFront i qs → head qs ≡ Some x
       → GoesFirstUnder key i x (hier l inner (group key deficit (fair m qs) ∷ gs)) (hier l inner
       (groups_taken measure l.quantum (group key deficit (fair m qs) ∷ gs)))
-  served_under key deficit i m qs gs x e f h a t =
-      let after : List (Queue T) = taken measure m.quantum qs in
-      let left : ℕ = deficit - head_bytes measure qs in
-      let new : List (Group T) = group_settled measure l.quantum (group key left (fair m after)) after gs in
-      let first : GoesFirst i x (fair m qs) (fair m after) = goes_first measure m.quantum m i qs x f.queues.each a t in
-      let own : (queues_of (inner_limits l inner) key new).queues ≡ after = subst (λ z. (queues_of z key new).queues ≡ after) e
-      (queues_of-settled_own l.quantum key left m after gs h) in
-      let was : queues_of (inner_limits l inner) key (group key deficit (fair m qs) ∷ gs) ≡ fair m qs = by_key key key
-      (λ b. cond b (fair m qs) (queues_of (inner_limits l inner) key gs) ≡ fair m qs) (λ _. refl) (λ n. absurd (n refl)) in
-      record {
-        own = ap (λ (z : Fair T). items_of i z.queues) was ∙ (first.own ∙ ap (λ z. x ∷ items_of i z) (sym own));
-        others = λ o k n. grind (arith, cases_eq o key, nat_tests, n, queues_of-settled_other l.quantum o key left m (inner_limits l inner) after gs, first.others k);
-      }
+  served_under key deficit i m qs gs x e f h a t = grind (arith, nat_tests, (goes_first measure m.quantum m i qs x f.queues.each a t), (queues_of-settled_own l.quantum key), cases_eq, (queues_of-settled_other l.quantum))
 
   -- an item that is taken was the first under its keys
   pub goes_first_under : (outer i : ℕ) (gs : List (Group T)) (x : T) → AreGroups measure l inner gs → AreFront outer i gs

@@ -1,8 +1,7 @@
 -- Queues as turns over rings of items.
-use Rattle.tva_drr.proofs.Common.{◌≡◌, ℕ, Bool, Option, is_none, ◌&&◌, leb, cond, ◌-◌, ◌<◌, ◌≤◌, List, [], ◌∷◌, ◌++◌, length, get_or, slice_get, drop, map, Some, None, refl, sym, ap, ◌∙◌, subst, suc, arith, option_map, option_map_or, get_or-map, length-map, map_push, DrrLimits, Queue, queue, fair, first, head, lacks_queue, refilled, settled, popped, front_settled, taken, HasTurn, IsPlace, Served, TurnsOver, turns_over, served, turn_keys, turns_refilled, turn_settled, turns_settled, turns_popped, front_next, RowOf, row, queues_in}
+use Rattle.tva_drr.proofs.Common.{◌≡◌, ℕ, Bool, Option, is_none, ◌&&◌, leb, ◌-◌, ◌<◌, ◌≤◌, List, [], ◌∷◌, length, get_or, slice_get, drop, map, Some, None, refl, sym, ap, ◌∙◌, subst, arith, option_map, option_map_or, get_or-map, length-map, map_push, DrrLimits, Queue, queue, fair, first, head, lacks_queue, refilled, settled, popped, front_settled, taken, HasTurn, IsPlace, Served, TurnsOver, turns_over, served, turn_keys, turns_refilled, turn_settled, turns_settled, turns_popped, front_next, RowOf, row, queues_in, nat_tests}
 use Rattle.tva_drr.specs.Take.{front_popped}
 use Rattle.tva_drr.proofs.Lists.{lacks_queue_is}
-use Rattle.tva_drr.proofs.Falling.{by_test}
 
 module _ {T : Type 0} where
   abbrev queue_of : Served (RowOf T) → Queue T
@@ -20,41 +19,31 @@ module _ {T : Type 0} where
   keys-queues (t ∷ ts) = ap (λ (z : List ℕ). t.key ∷ z) (keys-queues ts)
 
   pub front-head : (ts : List (Served (RowOf T))) → front_next (λ (r : RowOf T). first r.items) ts ≡ head (queues_in ts)
-  front-head [] = refl
-  front-head (t ∷ ts) = refl
+  front-head ts = grind (arith, nat_tests)
 
   pub none_got : (xs : List T) → slice_get xs 0 ≡ None → xs ≡ []
   none_got [] h = refl
   none_got (x ∷ xs) h = absurd (cc)
 
   queues-refilled : (quantum : ℕ) (ts : List (Served (RowOf T))) → queues_in (turns_refilled quantum ts) ≡ refilled quantum (queues_in ts)
-  queues-refilled quantum [] = refl
-  queues-refilled quantum (t ∷ ts) = refl
+  queues-refilled quantum ts = grind (arith, nat_tests)
 
   module _ (measure : T → ℕ) (quantum : ℕ) where
     settled_one : (k d room : ℕ) (xs : List T) (ts : List (Served (RowOf T))) → queues_in (turn_settled quantum (option_map measure (first xs)) (served k d (row xs room)) ts) ≡ settled measure quantum k d xs (queues_in ts)
-    settled_one k d room [] ts = queues-refilled quantum ts
-    settled_one k d room (x ∷ xs) ts =
-        let t : Served (RowOf T) = served k d (row (x ∷ xs) room) in
-        by_test (leb (suc d) (measure x)) (λ b. queues_in (cond b (turns_refilled quantum (ts ++ t ∷ [])) (t ∷ ts)) ≡ cond b (refilled quantum (queues_in ts ++ queue_of t ∷ [])) (queues_in (t ∷ ts)))
-        (λ _. queues-refilled quantum (ts ++ t ∷ []) ∙ ap (λ z. refilled quantum z) (map_push queue_of ts t)) (λ _. refl)
+    settled_one k d room xs ts = grind (arith, nat_tests, queues-refilled, map_push)
 
     pub queues-settled : (ts : List (Served (RowOf T))) → queues_in (turns_settled (λ (r : RowOf T). option_map measure (first r.items)) quantum ts) ≡ front_settled measure quantum (queues_in ts)
-    queues-settled [] = refl
-    queues-settled (t ∷ ts) = settled_one t.key t.deficit t.source.room t.source.items ts
+    queues-settled ts = grind (arith, nat_tests, settled_one)
 
   module _ (measure : T → ℕ) where
     popped_one : (k d : ℕ) (xs : List T) → queue k (d - option_map_or measure (first xs) 0) (drop 1 xs) ≡ popped measure k d xs
-    popped_one k d [] = ap (λ z. queue k z []) (let e : d - 0 ≡ d = omega arith in e)
-    popped_one k d (x ∷ xs) = refl
+    popped_one k d xs = grind (arith, nat_tests)
 
     pub queues-popped : (ts : List (Served (RowOf T))) → queues_in (turns_popped (λ (r : RowOf T). option_map_or measure (first r.items) 0) (λ (r : RowOf T). row (drop 1 r.items) r.room) ts) ≡ front_popped measure (queues_in ts)
-    queues-popped [] = refl
-    queues-popped (t ∷ ts) = ap (λ z. z ∷ queues_in ts) (popped_one t.key t.deficit t.source.items)
+    queues-popped ts = grind (arith, nat_tests, popped_one)
 
     covers_first : (l : DrrLimits) (d : ℕ) (xs : List T) (k : ℕ) (qs : List (Queue T)) → HasTurn measure l (queue k d xs ∷ qs) → option_map_or measure (first xs) 0 ≤ d
-    covers_first l d [] k qs h = omega arith
-    covers_first l d (x ∷ xs) k qs h = h.0
+    covers_first l d xs k qs h = grind (arith, nat_tests)
 
     -- the front may send its first item
     pub front_covers : (l : DrrLimits) (ts : List (Served (RowOf T))) → HasTurn measure l (queues_in ts) → (t : Served (RowOf T)) → slice_get ts 0 ≡ Some t → option_map_or measure (first t.source.items) 0 ≤ t.deficit
@@ -66,12 +55,7 @@ module _ {T : Type 0} where
         → one ≡ turns_over l places (turns_popped (λ (r : RowOf T). option_map_or measure (first r.items) 0) (λ (r : RowOf T). row (drop 1 r.items) r.room) ts)
         → two ≡ turns_over one.limits one.places (turns_settled (λ (r : RowOf T). option_map measure (first r.items)) one.limits.quantum one.turns)
         → (two.places ≡ places) × (fair two.limits (queues_in two.turns) ≡ fair l (taken measure l.quantum (queues_in ts)))
-    turns_after l places ts one two p s =
-        let whole = s ∙ ap (λ (v : TurnsOver (RowOf T)). turns_over v.limits v.places (turns_settled (λ (r : RowOf T). option_map measure (first r.items)) v.limits.quantum v.turns)) p in (
-          ap (λ (v : TurnsOver (RowOf T)). v.places) whole,
-          ap (λ (v : TurnsOver (RowOf T)). fair v.limits (queues_in v.turns)) whole
-              ∙ ap (λ qs. fair l qs) (queues-settled measure l.quantum _ ∙ ap (λ qs. front_settled measure l.quantum qs) (queues-popped ts)),
-        )
+    turns_after l places ts one two p s = grind (arith, nat_tests, queues-settled measure l.quantum, queues-popped ts)
 
   -- the tests of an offer, by what was found
   pub queue_lacked : (l : DrrLimits) (key : ℕ) (ts : List (Served (RowOf T))) (at : Option ℕ) (b : Bool) → IsPlace key (queues_in ts) at → b ≡ (is_none at && leb l.queues (length ts)) → lacks_queue (fair l (queues_in ts)) key ≡ b

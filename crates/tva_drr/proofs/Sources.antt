@@ -1,13 +1,13 @@
 -- Turns over sources, as they change places.
-use Rattle.tva_drr.proofs.Common.{◌≡◌, ℕ, ◌+◌, ◌<◌, List, [], ◌∷◌, ◌++◌, length, get_or, slice_get, take, drop, map, set, Some, sym, ap, ◌∙◌, subst, arith, length-append, All, AllByRecursion, map_push, length-set, recursion_from_All, All-from_recursion, All-head, All-tail, All-cons, All-push, All-set, All-pop, Served, served, turn_keys, turns_refilled}
+use Rattle.tva_base.proofs.Each.{each-of_map}
+use Rattle.tva_drr.proofs.Common.{◌≡◌, ℕ, ◌+◌, ◌<◌, List, [], ◌∷◌, ◌++◌, length, get_or, slice_get, take, drop, map, set, Some, sym, ap, ◌∙◌, subst, arith, length-append, All, map_push, length-set, recursion_from_All, All-from_recursion, All-head, All-tail, All-cons, All-push, All-set, All-pop, Served, served, turn_keys, turns_refilled}
 use Rattle.std.proofs.Math.Seq.{map-set_same}
 
 module _ {S : Type 0} where
   -- who comes next
   pub next_left : (P : Served S → Type 0) (ws : List (Served S)) → All P ws → (x : Served S) → slice_get (drop 1 ws) 0 ≡ Some x → P x
-  next_left P [] a x e = absurd (cc)
-  next_left P (w ∷ []) a x e = absurd (cc)
   next_left P (w ∷ v ∷ vs) a x e = let q : v ≡ x = cc in subst P q (All-head P v vs (All-tail P w (v ∷ vs) a))
+  next_left P _ a x e = absurd (cc)
 
   pub next_turned : (P : Served S → Type 0) (ws : List (Served S)) → All P ws → (x : Served S) → slice_get (drop 1 ws ++ take 1 ws) 0 ≡ Some x → P x
   next_turned P [] a x e = absurd (cc)
@@ -75,9 +75,5 @@ module _ {S : Type 0} where
   pub emptied_at : (emptied : S → S) (fresh : S) (ws : List (Served S)) (at : ℕ) (t : Served S) → at < length ws → t ≡ get_or ws at t → All (λ (t : Served S). emptied t.source ≡ fresh) ws → emptied t.source ≡ fresh
   emptied_at emptied fresh ws at t n e k = subst (λ (z : Served S). emptied z.source ≡ fresh) (sym e) (k at t n)
 
-of_map : {X Y : Type 0} (f : X → Y) (P : Y → Type 0) (xs : List X) → AllByRecursion P (map f xs) → AllByRecursion (λ x. P (f x)) xs
-of_map f P [] h = tt
-of_map f P (x ∷ xs) h = (h.0, of_map f P xs h.1)
-
 pub All-of_map : {X Y : Type 0} (f : X → Y) (P : Y → Type 0) (xs : List X) → All P (map f xs) → All (λ x. P (f x)) xs
-All-of_map f P xs h = All-from_recursion (λ x. P (f x)) xs (of_map f P xs (recursion_from_All P (map f xs) h))
+All-of_map f P xs h = All-from_recursion (λ x. P (f x)) xs (each-of_map f P xs (recursion_from_All P (map f xs) h))

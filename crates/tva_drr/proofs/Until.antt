@@ -1,5 +1,5 @@
 -- The bytes that go up to a key's n-th item, whatever is offered.
-use Rattle.tva_drr.proofs.Common.{◌≡◌, ℕ, zero, suc, ◌+◌, ◌≤◌, Bool, true, false, cond, eqb, List, [], ◌∷◌, ◌++◌, length, length-append, take, refl, sym, ap, ◌∙◌, subst, Some, arith, take-append-le, sum_by-cons, MatchBool, DrrLimits, Queue, Fair, fair, has_key, items_of, bytes_in, all_bytes, first, head, put, lacks_queue, lacks_room, offer_leaves, taken, AreMeasured, AreQueues, AreFair, IsFair, Step, Offer, Take, first_bytes, head_bytes, AreOffers, most_until, bytes_ahead, IsLeft}
+use Rattle.tva_drr.proofs.Common.{◌≡◌, ℕ, zero, suc, ◌+◌, ◌≤◌, Bool, true, false, cond, eqb, List, [], ◌∷◌, ◌++◌, length, length-append, take, refl, sym, ap, subst, Some, arith, take-append-le, sum_by-cons, MatchBool, DrrLimits, Queue, Fair, fair, has_key, items_of, bytes_in, all_bytes, first, head, put, lacks_queue, lacks_room, offer_leaves, taken, AreMeasured, AreQueues, AreFair, IsFair, Step, Offer, Take, first_bytes, head_bytes, AreOffers, most_until, bytes_ahead, IsLeft, nat_tests}
 use Rattle.tva_drr.specs.Service.{bytes_until}
 use Rattle.tva_drr.proofs.Lists.{by_key, items_of_none}
 use Rattle.tva_drr.proofs.Keeps.{keeps-offer, keeps-taken}
@@ -8,9 +8,7 @@ use Rattle.tva_drr.proofs.Falling.{by_test, taken_falls, ahead-offer, ahead_most
 
 -- by whether an offer is queued
 pub offer_cases : {A : Type 0} (b c : Bool) (f g : A) (P : A → Type 0) → P f → (b ≡ false → c ≡ false → P g) → P (cond b f (cond c f g))
-offer_cases true c f g P x y = x
-offer_cases false true f g P x y = x
-offer_cases false false f g P x y = y refl refl
+offer_cases b c f g P x y = grind (arith, nat_tests)
 
 module _ {T : Type 0} where
   pub has_from_items : (key : ℕ) (qs : List (Queue T)) → 1 ≤ length (items_of key qs) → has_key key qs ≡ true
@@ -25,17 +23,11 @@ module _ {T : Type 0} where
       pub bytes : bytes_in measure (take n (items_of key f.queues)) ≡ r
 
     pub more_items : (key n r : ℕ) (xs ys : List T) (x : T) → ys ≡ xs ++ x ∷ [] → n ≤ length xs → bytes_in measure (take n xs) ≡ r → (n ≤ length ys) × (bytes_in measure (take n ys) ≡ r)
-    more_items key n r xs ys x e h b =
-        subst (λ zs. (n ≤ length zs) × (bytes_in measure (take n zs) ≡ r)) (sym e)
-        (omega (arith, h, length-append xs (x ∷ [])), ap (λ zs. bytes_in measure zs) (take-append-le n xs (x ∷ []) h) ∙ b)
+    more_items key n r xs ys x e h b = grind (arith, nat_tests, length-append xs (x ∷ []), take-append-le n xs (x ∷ []))
 
     items-put : (key n r k : ℕ) (x : T) (qs : List (Queue T)) → n ≤ length (items_of key qs) → bytes_in measure (take n (items_of key qs)) ≡ r
         → (n ≤ length (items_of key (put l.quantum k x qs))) × (bytes_in measure (take n (items_of key (put l.quantum k x qs))) ≡ r)
-    items-put key n r k x qs h b =
-        let g = goes_last l l.quantum k x qs in
-        by_key k key (λ _. (n ≤ length (items_of key (put l.quantum k x qs))) × (bytes_in measure (take n (items_of key (put l.quantum k x qs))) ≡ r))
-        (λ e. more_items key n r (items_of key qs) (items_of key (put l.quantum k x qs)) x (subst (λ z. items_of z (put l.quantum k x qs) ≡ items_of z qs ++ x ∷ []) e g.own) h b)
-        (λ m. subst (λ zs. (n ≤ length zs) × (bytes_in measure (take n zs) ≡ r)) (sym (g.others key (λ e. m (sym e)))) (h, b))
+    items-put key n r k x qs h b = grind (arith, nat_tests, goes_last l l.quantum k x qs, more_items key n r (items_of key qs) (items_of key (put l.quantum k x qs)) x)
 
     pub waits-offer : (key n r k : ℕ) (x : T) (qs : List (Queue T)) → (1 ≤ measure x) × (measure x ≤ l.max) → Waits key n r (fair l qs) → Waits key n r (offer_leaves measure (fair l qs) k x)
     waits-offer key n r k x qs m w =
@@ -50,44 +42,25 @@ module _ {T : Type 0} where
 
     -- what a front's take gives
     pub some_head : (qs : List (Queue T)) → AreFair measure l qs → (key : ℕ) → has_key key qs ≡ true → (x : T) × ((head qs ≡ Some x) × (head_bytes measure qs ≡ measure x))
-    some_head [] f key h = absurd (cc)
-    some_head (q ∷ qs) f key h = some_first q.items f.each.0.filled
+    some_head qs f key h = grind (arith, nat_tests, some_first)
 
     pub fair_taken : (qs : List (Queue T)) (x : T) → IsFair measure (fair l qs) → head qs ≡ Some x → IsFair measure (fair l (taken measure l.quantum qs))
     fair_taken qs x f e = (keeps-taken measure l (all_bytes measure qs) qs x f refl e).0
 
     -- a take of another key's item
     waits-other : (key n r : ℕ) (q : Queue T) (qs : List (Queue T)) (x : T) → head (q ∷ qs) ≡ Some x → (q.key ≡ key → ⊥) → Waits key n r (fair l (q ∷ qs)) → Waits key n r (fair l (taken measure l.quantum (q ∷ qs)))
-    waits-other key n r q qs x e m w =
-        let g = goes_first measure l.quantum l q.key (q ∷ qs) x w.fair.queues.each refl e in
-        let same : items_of key (taken measure l.quantum (q ∷ qs)) ≡ items_of key (q ∷ qs) = g.others key (λ k. m (sym k)) in
-        record {
-          fair = fair_taken (q ∷ qs) x w.fair e;
-          limits = refl;
-          enough = subst (λ zs. n ≤ length zs) (sym same) w.enough;
-          bytes = subst (λ zs. bytes_in measure (take n zs) ≡ r) (sym same) w.bytes;
-        }
+    waits-other key n r q qs x e m w = grind (arith, nat_tests, goes_first measure l.quantum l q.key (q ∷ qs) x w.fair.queues.each refl e, fair_taken (q ∷ qs) x)
 
     pub one_less : (n r : ℕ) (x : T) (xs ys : List T) → xs ≡ x ∷ ys → suc n ≤ length xs → bytes_in measure (take (suc n) xs) ≡ r → (n ≤ length ys) × (measure x + bytes_in measure (take n ys) ≡ r)
-    one_less n r x xs ys e h b =
-        let h2 : suc n ≤ length (x ∷ ys) = subst (λ zs. suc n ≤ length zs) e h in
-        let b2 : bytes_in measure (x ∷ take n ys) ≡ r = subst (λ zs. bytes_in measure (take (suc n) zs) ≡ r) e b in
-        (omega arith, omega (arith, b2, sum_by-cons measure x (take n ys)))
+    one_less n r x xs ys e h b = grind (arith, nat_tests, sum_by-cons measure x (take n ys))
 
     pub next_le : (n : ℕ) (ys : List T) → 1 ≤ n → n ≤ length ys → first_bytes measure ys ≤ bytes_in measure (take n ys)
-    next_le n [] h k = absurd (omega arith)
-    next_le zero (y ∷ ys) h k = absurd (omega arith)
-    next_le (suc n) (y ∷ ys) h k = omega (arith, sum_by-cons measure y (take n ys))
+    next_le n ys h k = grind (arith, nat_tests, sum_by-cons)
 
     -- a take of its own
     waits-own : (key n r : ℕ) (q : Queue T) (qs : List (Queue T)) (x : T) → head (q ∷ qs) ≡ Some x → q.key ≡ key → Waits key (suc n) r (fair l (q ∷ qs))
         → (left : ℕ) × ((measure x + left ≡ r) × (Waits key n left (fair l (taken measure l.quantum (q ∷ qs))) × (1 ≤ n → first_bytes measure (items_of key (taken measure l.quantum (q ∷ qs))) ≤ left)))
-    waits-own key n r q qs x e m w =
-        let new : List T = items_of key (taken measure l.quantum (q ∷ qs)) in
-        let g = goes_first measure l.quantum l q.key (q ∷ qs) x w.fair.queues.each refl e in
-        let own : items_of key (q ∷ qs) ≡ x ∷ new = subst (λ z. items_of z (q ∷ qs) ≡ x ∷ items_of z (taken measure l.quantum (q ∷ qs))) m g.own in
-        let o = one_less n r x (items_of key (q ∷ qs)) new own w.enough w.bytes in
-        (bytes_in measure (take n new), (o.1, (record { fair = fair_taken (q ∷ qs) x w.fair e; limits = refl; enough = o.0; bytes = refl }, λ h. next_le n new h o.0)))
+    waits-own key n r q qs x e m w = grind (arith, nat_tests, (goes_first measure l.quantum l q.key (q ∷ qs) x w.fair.queues.each refl e), (one_less n r x (items_of key (q ∷ qs))), (fair_taken (q ∷ qs) x w.fair e), (next_le n))
 
     pub ahead_enough : (key r : ℕ) (qs : List (Queue T)) → r ≤ bytes_ahead l key r qs
     ahead_enough key r qs = omega arith
@@ -133,9 +106,7 @@ module _ {T : Type 0} where
         refl
 
     pub some_bytes : (n : ℕ) (xs : List T) → 1 ≤ n → n ≤ length xs → AreMeasured measure l xs → 1 ≤ bytes_in measure (take n xs)
-    some_bytes n [] h k m = absurd (omega arith)
-    some_bytes zero (x ∷ xs) h k m = absurd (omega arith)
-    some_bytes (suc n) (x ∷ xs) h k m = omega (arith, m.0, sum_by-cons measure x (take n xs))
+    some_bytes n xs h k m = grind (arith, nat_tests, sum_by-cons)
 
     pub measured_items : (key : ℕ) (qs : List (Queue T)) → AreQueues measure l qs → AreMeasured measure l (items_of key qs)
     measured_items key [] f = tt

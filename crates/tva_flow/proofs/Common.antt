@@ -1,8 +1,8 @@
 -- What several proofs of this crate name, by where it stands.
 pub use Rattle.std.proofs.Common.{◌≡◌, ℕ, ◌+◌, ◌*◌, ◌<◌, ◌≤◌, Bool, true, false, not, cond, eqb, ltb, leb, List, [], ◌∷◌, ◌++◌, length, get_or, set, Option, Some, None, refl, sym, ap, ◌∙◌, subst, inl, inr, arith, append-nil, ◌/◌, ◌||◌, ◌⊎◌, zero-add, add-zero, mul_assoc, append_assoc, ◌&&◌, zero, suc, count_by, take, ◌^◌, max, sum_by, length-append, rules}
 pub use Rattle.std.proofs.Math.Nat.{mul-le-mul_right, mul_comm, add-mul, le-mul_of_pos_right, mul-le-mul_left, le_of_mul-le-mul_right}
-pub use Rattle.std.proofs.lemmas.Bool.{cases_lt, cases_eq}
-pub use Rattle.std.proofs.lemmas.Bool.Decides.{nat_tests, eqb_tells, leb_tells}
+pub use Rattle.std.proofs.lemmas.Bool.{cases_lt, cases_eq, eqb-true, ltb-true, ltb-false, leb-true, leb-false, and_right}
+pub use Rattle.std.proofs.lemmas.Bool.Decides.{nat_tests, leb_tells}
 pub use Rattle.std.proofs.lemmas.Grind.{div_ceil_times}
 pub use Rattle.std.proofs.lemmas.List.{get_or-set_same, get_or-set_other, get_or_default, length-set, get_or_push, length_push}
 pub use Rattle.std.proofs.lemmas.List.Elements.{All-head, All-tail, All-filter, All-from_recursion, recursion_from_All, All-nil, All-cons, All-push, All-weaker, All-set}

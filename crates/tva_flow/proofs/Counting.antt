@@ -1,6 +1,6 @@
 -- As many flows live as entries do.
-use Rattle.tva_flow.proofs.Common.{◌≡◌, ℕ, ◌+◌, ◌<◌, ◌≤◌, Bool, true, false, ◌&&◌, cond, ltb, List, [], ◌∷◌, length, get_or, Option, Some, None, refl, sym, ap, ◌∙◌, subst, inl, inr, zero, suc, arith, count_by, nat_tests, sum_by-cons, All, AllByRecursion, recursion_from_All, Entry, Flow, Charge, same_flow, is_living, of_flow, lives, has_flow, flows, living_count, IsKept, StandsFor, cache, entry_of, AreApart}
-use Rattle.tva_flow.proofs.Same.{flow_tells, by_bool, by_flow, and_false_right}
+use Rattle.tva_flow.proofs.Common.{◌≡◌, ℕ, ◌+◌, ◌<◌, ◌≤◌, Bool, true, false, ◌&&◌, cond, ltb, List, [], ◌∷◌, length, get_or, Option, Some, None, refl, sym, ap, ◌∙◌, subst, inl, inr, zero, suc, arith, and_right, count_by, nat_tests, sum_by-cons, All, AllByRecursion, recursion_from_All, Entry, Flow, Charge, same_flow, is_living, of_flow, lives, has_flow, flows, living_count, IsKept, StandsFor, cache, entry_of, AreApart}
+use Rattle.tva_flow.proofs.Same.{flow_tells, by_bool, by_flow}
 use Rattle.tva_flow.proofs.Standing.{stands-later}
 use Rattle.tva_flow.proofs.Steps.{by_lt, kept_cases, not_living}
 
@@ -61,7 +61,7 @@ length-living_among h now (f ∷ fs) = grind (arith, nat_tests, length-living_am
 
 pub has-living_among : (h : List Charge) (now : ℕ) (fs : List Flow) (f : Flow) → has f (living_among h now fs) ≡ (has f fs && lives h f now)
 has-living_among h now [] f = refl
-has-living_among h now (g ∷ fs) f = grind (arith, nat_tests, flow_tells, has-living_among h now fs f, and_false_right (has f fs))
+has-living_among h now (g ∷ fs) f = grind (arith, nat_tests, flow_tells, has-living_among h now fs f, and_right (has f fs) false refl)
 
 pub distinct-living_among : (h : List Charge) (now : ℕ) (fs : List Flow) → AreDistinct fs → AreDistinct (living_among h now fs)
 distinct-living_among h now [] d = tt

@@ -1,5 +1,5 @@
 -- Entries stay indexed where one is written or added.
-use Rattle.tva_flow.proofs.Common.{◌≡◌, ℕ, ◌+◌, ◌*◌, ◌<◌, ◌≤◌, List, [], ◌∷◌, length, get_or, set, Option, Some, None, refl, sym, ap, ◌∙◌, subst, inl, inr, ◌⊎◌, zero, suc, arith, MatchOption, cases_eq, get_or-set_same, get_or-set_other, get_or_default, length-set, Flow, Entry, bucket_of, entry_of, AreIndexed, IsUpTo}
+use Rattle.tva_flow.proofs.Common.{◌≡◌, ℕ, ◌+◌, ◌*◌, ◌<◌, ◌≤◌, List, [], ◌∷◌, length, get_or, set, Option, Some, None, refl, sym, ap, ◌∙◌, subst, ◌⊎◌, zero, suc, arith, MatchOption, cases_eq, get_or-set_same, get_or-set_other, get_or_default, length-set, Flow, Entry, bucket_of, entry_of, AreIndexed, IsUpTo}
 use Rattle.tva_index.specs.Buckets.{Placed, placed, IsLastBelow}
 use Rattle.tva_index.proofs.Homes.{in_range, here as home_here, elsewhere as home_there}
 use Rattle.tva_flow.specs.declared.hash.HashKey.{HashKey}

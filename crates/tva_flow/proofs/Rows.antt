@@ -1,9 +1,6 @@
 -- What holds where a packet is authorised, row by row.
-use Rattle.tva_flow.proofs.Common.{◌≡◌, ℕ, ◌+◌, ◌*◌, ◌<◌, ◌≤◌, Bool, true, false, not, ◌&&◌, ◌||◌, cond, eqb, ltb, leb, List, Option, Some, None, refl, sym, ap, ◌∙◌, subst, inl, inr, ◌⊎◌, arith, nat_tests, Flow, Grant, router_second, Authorised, Expired, OverN, UnknownNonce, CacheFull, Superseded, Charge, same_grant, used, lives, holder, living_count, supersedes, list_verdict, nonce_verdict, nonce_rows, IsAuthorised}
-use Rattle.tva_flow.proofs.Same.{and_false_right, same_grant-self}
-
-within : (units bytes : ℕ) → ltb units bytes ≡ false → bytes ≤ units
-within units bytes h = grind (arith, nat_tests)
+use Rattle.tva_flow.proofs.Common.{◌≡◌, ℕ, ◌+◌, ◌*◌, ◌<◌, ◌≤◌, Bool, true, false, not, ◌&&◌, ◌||◌, cond, eqb, ltb, leb, List, Option, Some, None, refl, sym, ap, ◌∙◌, subst, inl, inr, ◌⊎◌, arith, ltb-false, leb-false, and_right, Flow, Grant, router_second, Authorised, Expired, OverN, UnknownNonce, CacheFull, Superseded, Charge, same_grant, used, lives, holder, living_count, supersedes, list_verdict, nonce_verdict, nonce_rows, IsAuthorised}
+use Rattle.tva_flow.proofs.Same.{same_grant-self}
 
 rows_of : (b c d : Bool) (g k : Grant) → cond b Superseded (cond c OverN (cond d CacheFull (Authorised g))) ≡ Authorised k → (b ≡ false) × (c ≡ false) × (d ≡ false) × (g ≡ k)
 rows_of b c d g k h = grind arith
@@ -14,7 +11,7 @@ pub list_rows : (slots : ℕ) (h : List Charge) (now : ℕ) (g k : Grant) (bytes
 unfolding list_verdict
 list_rows slots h now g k bytes t =
     let r = rows_of (lives h g.flow now && supersedes (holder h g.flow) g) (ltb (1024 * g.rights.n) (used h g now + bytes)) (not (lives h g.flow now) && leb slots (living_count h now)) g k t in
-    (r.0, within (1024 * g.rights.n) (used h g now + bytes) r.1, r.3)
+    (r.0, ltb-false (1024 * g.rights.n) (used h g now + bytes) r.1, r.3)
 
 -- what holds of an authorised packet that shows a nonce
 pub record IsHeld (offset : ℕ) (h : List Charge) (now bytes : ℕ) (g : Grant) (last : Option Charge) : Type 0 where
@@ -30,9 +27,6 @@ first_false a b d g k h = grind arith
 held_rows : (a b d : Bool) (g k : Grant) → cond a UnknownNonce (cond b Expired (cond d OverN (Authorised g))) ≡ Authorised k → (b ≡ false) × (d ≡ false) × (g ≡ k)
 held_rows a b d g k h = grind arith
 
-before_end : (a b : ℕ) → leb a b ≡ false → b < a
-before_end a b h = grind (arith, nat_tests)
-
 held_from : (offset : ℕ) (h : List Charge) (now : ℕ) (f : Flow) (nonce bytes : ℕ) (g : Grant) (o : Option Charge) → nonce_rows offset h now f nonce bytes o ≡ Authorised g → IsHeld offset h now bytes g o
 held_from offset h now f nonce bytes g None t = absurd (cc)
 held_from offset h now f nonce bytes g (Some c) t =
@@ -40,8 +34,8 @@ held_from offset h now f nonce bytes g (Some c) t =
     record {
       charge = c;
       is = refl;
-      until = before_end (c.grant.second + c.grant.rights.t) (router_second offset now) r.0;
-      room = within (1024 * c.grant.rights.n) (used h c.grant now + bytes) r.1;
+      until = leb-false (c.grant.second + c.grant.rights.t) (router_second offset now) r.0;
+      room = ltb-false (1024 * c.grant.rights.n) (used h c.grant now + bytes) r.1;
       grant = r.2;
     }
 
@@ -58,7 +52,7 @@ pub authorised_rows : (slots offset : ℕ) (before : List Charge) (c : Charge) �
 authorised_rows slots offset before c v = elim v [
   | inl t ↦ (let r = list_rows slots before c.time c.grant c.grant c.length t in (r.0, r.1))
   | inr t ↦ (let r = held offset before c.time c.grant.flow c.nonce c.length c.grant t in (
-    ap (λ x. lives before c.grant.flow c.time && x) (subst (λ o. supersedes o c.grant ≡ false) (sym r.is) (own_passes r.charge.grant c.grant r.grant)) ∙ and_false_right (lives before c.grant.flow c.time),
+    ap (λ x. lives before c.grant.flow c.time && x) (subst (λ o. supersedes o c.grant ≡ false) (sym r.is) (own_passes r.charge.grant c.grant r.grant)) ∙ and_right (lives before c.grant.flow c.time) false refl,
     subst (λ (z : Grant). used before z c.time + c.length ≤ 1024 * z.rights.n) r.grant r.room,
   ))
 ]
@@ -66,7 +60,7 @@ authorised_rows slots offset before c v = elim v [
 -- an authorised packet's flow lives, or fewer flows live than there are slots
 opens : (b : Bool) (slots count : ℕ) → (not b && leb slots count) ≡ false → (b ≡ true) ⊎ (count < slots)
 opens true slots count h = inl refl
-opens false slots count h = inr (before_end slots count h)
+opens false slots count h = inr (leb-false slots count h)
 
 both_false : (a b : Bool) → (not a || b) ≡ false → a ≡ true
 both_false a b h = grind arith

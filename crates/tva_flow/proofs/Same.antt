@@ -1,33 +1,25 @@
 -- What the tests on flows and grants tell.
-use Rattle.tva_flow.proofs.Common.{◌≡◌, ℕ, Bool, true, false, ◌&&◌, eqb, refl, ap, ◌∙◌, subst, inl, inr, ◌⊎◌, arith, nat_tests, eqb_tells, Flow, Rights, Grant, same_flow, same_grant}
+use Rattle.tva_flow.proofs.Common.{◌≡◌, ℕ, Bool, true, false, ◌&&◌, refl, ap, ◌∙◌, subst, inl, inr, ◌⊎◌, arith, nat_tests, eqb-true, Flow, Rights, Grant, same_flow, same_grant}
+use Rattle.tva_base.proofs.Each.{by_test, both_true}
 use Rattle.tva_base.specs.declared.addresses.Address.{Address}
 
 -- by a test
 pub by_bool : (b : Bool) (P : Bool → Type 0) → (b ≡ true → P true) → (b ≡ false → P false) → P b
-by_bool true P t f = t refl
-by_bool false P t f = f refl
+by_bool = by_test
 
 pub and_true : (a b : Bool) → (a && b) ≡ true → (a ≡ true) × (b ≡ true)
-and_true true b h = (refl, h)
-and_true false b h = absurd (cc)
+and_true = both_true
 
 pub and_false : (a b : Bool) → (a && b) ≡ false → a ≡ true → b ≡ false
 and_false true b h e = h
 and_false false b h e = absurd (cc)
 
-pub and_false_right : (b : Bool) → (b && false) ≡ false
-and_false_right true = refl
-and_false_right false = refl
-
-eq_from : (a b : ℕ) → eqb a b ≡ true → a ≡ b
-eq_from a b h = elim (eqb_tells a b) [ inl k ↦ k.1 | inr k ↦ absurd (cc) ]
-
 -- two flows that test alike are one
 pub flow_is : (a b : Flow) → same_flow a b ≡ true → a ≡ b
 flow_is a b h =
     let p = and_true _ _ h in
-    ap (λ (x : ℕ). let s : Address = record { 0 = x } in let f : Flow = record { src = s; dst = a.dst } in f) (eq_from a.src.0 b.src.0 p.0)
-    ∙ ap (λ (x : ℕ). let d : Address = record { 0 = x } in let f : Flow = record { src = b.src; dst = d } in f) (eq_from a.dst.0 b.dst.0 p.1)
+    ap (λ (x : ℕ). let s : Address = record { 0 = x } in let f : Flow = record { src = s; dst = a.dst } in f) (eqb-true a.src.0 b.src.0 p.0)
+    ∙ ap (λ (x : ℕ). let d : Address = record { 0 = x } in let f : Flow = record { src = b.src; dst = d } in f) (eqb-true a.dst.0 b.dst.0 p.1)
 
 pub same_flow-self : (f : Flow) → same_flow f f ≡ true
 same_flow-self f = grind (arith, nat_tests)
@@ -55,6 +47,6 @@ same_is a b h =
     let q = and_true _ _ p.0 in
     let r = and_true _ _ q.0 in
     ap (λ (x : Flow). let g : Grant = record { flow = x; rights = a.rights; second = a.second } in g) (flow_is a.flow b.flow r.0)
-    ∙ (ap (λ (x : ℕ). let s : Rights = record { n = x; t = a.rights.t } in let g : Grant = record { flow = b.flow; rights = s; second = a.second } in g) (eq_from a.rights.n b.rights.n r.1)
-    ∙ (ap (λ (x : ℕ). let s : Rights = record { n = b.rights.n; t = x } in let g : Grant = record { flow = b.flow; rights = s; second = a.second } in g) (eq_from a.rights.t b.rights.t q.1)
-    ∙ ap (λ (x : ℕ). let g : Grant = record { flow = b.flow; rights = b.rights; second = x } in g) (eq_from a.second b.second p.1)))
+    ∙ (ap (λ (x : ℕ). let s : Rights = record { n = x; t = a.rights.t } in let g : Grant = record { flow = b.flow; rights = s; second = a.second } in g) (eqb-true a.rights.n b.rights.n r.1)
+    ∙ (ap (λ (x : ℕ). let s : Rights = record { n = b.rights.n; t = x } in let g : Grant = record { flow = b.flow; rights = s; second = a.second } in g) (eqb-true a.rights.t b.rights.t q.1)
+    ∙ ap (λ (x : ℕ). let g : Grant = record { flow = b.flow; rights = b.rights; second = x } in g) (eqb-true a.second b.second p.1)))

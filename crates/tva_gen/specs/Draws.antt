@@ -1,7 +1,6 @@
 -- Product: what a row is drawn from: four words of a generator, and what each part of a row is by them.
 use Rattle.std.specs.Prelude.{ℕ, ◌+◌, ◌/◌, ◌%◌, ◌==◌, Bool, min}
-use Rattle.rand_pcg.specs.Lcg.{Lcg}
-use Rattle.rand_pcg.specs.Pcg.{pcg32}
+use Rattle.rand_pcg.specs.{Lcg.Lcg, Pcg.pcg32}
 use Rattle.tva_gen.specs.declared.draw.RowWords.{RowWords}
 
 -- the next word, and the state behind it

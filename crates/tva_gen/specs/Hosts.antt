@@ -1,8 +1,7 @@
 -- Product: the hosts of a plan, and the text of an address.
 use Rattle.std.specs.Prelude.{ℕ, ◌/◌, ◌%◌, ◌^◌, List, [], ◌∷◌, decimal}
 use Rattle.std.specs.List.{join_with_byte}
-use Rattle.tva_base.specs.declared.addresses.Address.{Address}
-use Rattle.tva_base.specs.declared.plan.HostPlan.{HostPlan}
+use Rattle.tva_base.specs.declared.{addresses.Address.Address, plan.HostPlan.HostPlan}
 use Rattle.tva_plan.specs.declared.config.NodePlan as nodes
 use Rattle.tva_plan.specs.declared.config.NodePlan.TheVariants as node
 

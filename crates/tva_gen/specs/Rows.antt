@@ -4,9 +4,8 @@ use Rattle.std.specs.Prelude.{Option, Some, None, codes, decimal, slice_get}
 use Rattle.std.specs.List.{join_with_byte}
 use Rattle.rand_pcg.specs.Lcg.{Lcg}
 use Rattle.tva_base.specs.declared.plan.HostPlan.{HostPlan}
-use Rattle.tva_gen.specs.declared.draw.RowWords.{RowWords}
+use Rattle.tva_gen.specs.{declared.draw.RowWords.RowWords, Hosts.address_text}
 use Rattle.tva_gen.specs.Draws.{state_behind, draw_at, host_number, is_raw, later, payload}
-use Rattle.tva_gen.specs.Hosts.{address_text}
 
 -- the fields of a row that gives the bytes of a shim, and of one at which its host sends
 abbrev pub raw_fields : ℕ → HostPlan → HostPlan → ℕ → List (List ℕ)

@@ -1,11 +1,9 @@
 -- Product: the text of a generated trace.
 use Rattle.std.specs.Prelude.{ℕ, List, [], ◌∷◌, ◌++◌, codes}
-use Rattle.rand_pcg.specs.Lcg.{Lcg, increment_of, started}
-use Rattle.rand_pcg.specs.Pcg.{multiplier_64}
+use Rattle.rand_pcg.specs.{Lcg.Lcg, Lcg.increment_of, Lcg.started, Pcg.multiplier_64}
 use Rattle.tva_base.specs.declared.plan.HostPlan.{HostPlan}
 use Rattle.tva_plan.specs.declared.config.Config.{Config}
-use Rattle.tva_gen.specs.Hosts.{hosts_in}
-use Rattle.tva_gen.specs.Rows.{joined, drawn_rows}
+use Rattle.tva_gen.specs.{Hosts.hosts_in, Rows.joined, Rows.drawn_rows}
 
 -- the names of the fields
 abbrev pub header : List ℕ

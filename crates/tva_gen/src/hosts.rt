@@ -1,7 +1,6 @@
 // The hosts of a plan, and the words that name them.
 ghost use Rattle.std.specs.Prelude.{◌≡◌, ◌<◌, ◌++◌, IfOk, OnOk, decimal, length, map, Some, slice_get};
-ghost use Rattle.tva_gen.specs.Draws.{host_number};
-ghost use Rattle.tva_gen.specs.Hosts.{address_text, hosts_in};
+ghost use Rattle.tva_gen.specs.{Draws.host_number, Hosts.address_text, Hosts.hosts_in};
 
 use itoa::Buffer;
 use std::alloc::{AllocError, Global};

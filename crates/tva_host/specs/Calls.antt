@@ -1,13 +1,9 @@
 -- Product: the calls on a host, and the history that they make.
 use Rattle.std.specs.Prelude.{ℕ, ◌≤◌, List, [], ◌∷◌, fold}
-use Rattle.tva_base.specs.declared.addresses.Address.{Address}
-use Rattle.tva_base.specs.declared.packet.Flow.{Flow}
-use Rattle.tva_base.specs.declared.packet.Upper.{Upper}
+use Rattle.tva_base.specs.declared.{addresses.Address.Address, packet.Flow.Flow, packet.Upper.Upper}
 use Rattle.tva_base.specs.declared.plan.HostPlan.{HostPlan}
-use Rattle.tva_shim.specs.declared.packets.Carried.{Carried}
-use Rattle.tva_shim.specs.Packets.{PacketData}
-use Rattle.tva_host.specs.History.{History, beginning, with_packet}
-use Rattle.tva_host.specs.Sending.{after_intending}
+use Rattle.tva_shim.specs.{declared.packets.Carried.Carried, Packets.PacketData}
+use Rattle.tva_host.specs.{History.History, History.beginning, History.with_packet, Sending.after_intending}
 use Rattle.tva_host.specs.Receiving.{after_receipt}
 
 -- a packet that is to be sent at a time to a destination with a payload and an upper part; a packet of

@@ -1,11 +1,8 @@
 -- Product: what a host did and met.
 use Rattle.std.specs.Prelude.{ℕ, ◌+◌, ◌%◌, ◌^◌, List, [], ◌∷◌, ◌++◌}
-use Rattle.tva_base.specs.declared.addresses.Address.{Address}
-use Rattle.tva_base.specs.declared.plan.HostPlan.{HostPlan}
+use Rattle.tva_base.specs.declared.{addresses.Address.Address, plan.HostPlan.HostPlan}
 use Rattle.tva_policy.specs.Grants.{Deed}
-use Rattle.tva_sender.specs.declared.shape.Shape.{Shape}
-use Rattle.tva_sender.specs.Contacts.{Contact, Prepared}
-use Rattle.tva_sender.specs.Shapes.{length_of}
+use Rattle.tva_sender.specs.{declared.shape.Shape.Shape, Contacts.Contact, Contacts.Prepared, Shapes.length_of}
 
 -- what its policy goes by, what happened with each peer, the number of packets that were made or
 -- injected, and the number of those that were prepared

@@ -1,33 +1,20 @@
 -- Product: what a host makes of the packets that it receives.
-use Rattle.std.specs.Prelude.{ℕ, ◌+◌, ◌==◌, Bool, true, false, ◌&&◌, if◌then◌else◌, List, [], ◌∷◌, ◌++◌, length, map}
-use Rattle.std.specs.Prelude.{is_some, Option, Some, None}
+use Rattle.std.specs.Prelude.{ℕ, ◌+◌, ◌==◌, Bool, true, false, ◌&&◌, if◌then◌else◌, List, [], ◌∷◌, ◌++◌, length, map, is_some, Option, Some, None}
 use Rattle.std.specs.Option.{option_map_or}
-use Rattle.tva_base.specs.declared.addresses.Address.{Address}
-use Rattle.tva_base.specs.declared.packet.Rights.{Rights}
-use Rattle.tva_base.specs.declared.packet.Upper.{Upper}
+use Rattle.tva_base.specs.declared.{addresses.Address.Address, packet.Rights.Rights, packet.Upper.Upper, plan.HostPlan.HostPlan, event.WhatKind.WhatKind, event.BackKind.BackKind}
 use Rattle.tva_base.specs.declared.packet.Upper.TheVariants as upper
-use Rattle.tva_base.specs.declared.plan.HostPlan.{HostPlan}
-use Rattle.tva_base.specs.declared.event.WhatKind.{WhatKind}
 use Rattle.tva_base.specs.declared.event.WhatKind.TheVariants as what
-use Rattle.tva_base.specs.declared.event.BackKind.{BackKind}
 use Rattle.tva_base.specs.declared.event.BackKind.TheVariants as became
-use Rattle.tva_shim.specs.declared.kinds.Kind.{Kind}
-use Rattle.tva_shim.specs.declared.kinds.Kind.TheVariants as kinds
-use Rattle.tva_shim.specs.declared.kinds.ReturnInfo.{ReturnInfo}
-use Rattle.tva_shim.specs.declared.kinds.ReturnInfo.TheVariants as backs
-use Rattle.tva_shim.specs.Shows.{back_in}
-use Rattle.tva_shim.specs.declared.packets.Carried.{Carried}
-use Rattle.tva_shim.specs.declared.packets.Carried.TheVariants as carried
-use Rattle.tva_shim.specs.Changes.{nonzero_tags}
-use Rattle.tva_shim.specs.Layout.{return_size}
+use Rattle.tva_shim.specs.declared.{kinds.Kind.Kind, kinds.ReturnInfo.ReturnInfo, packets.Carried.Carried}
+use Rattle.tva_shim.specs.{Shows.back_in, Changes.nonzero_tags, Layout.return_size}
 use Rattle.tva_shim.specs.Packets.{PacketData, upper_size}
+use Rattle.tva_shim.specs.declared.kinds.Kind.TheVariants as kinds
+use Rattle.tva_shim.specs.declared.kinds.ReturnInfo.TheVariants as backs
+use Rattle.tva_shim.specs.declared.packets.Carried.TheVariants as carried
 use Rattle.tva_caps.specs.Formula.{capability_of}
 use Rattle.tva_policy.specs.Grants.{Deed, Decided, grant_decision}
-use Rattle.tva_sender.specs.Contacts.{Contact, Taken, Notice, takes}
-use Rattle.tva_sender.specs.Book.{of_peer}
-use Rattle.tva_host.specs.declared.made.Made.{Made}
-use Rattle.tva_host.specs.declared.made.Receipt.{Receipt}
-use Rattle.tva_host.specs.History.{History}
+use Rattle.tva_sender.specs.{Contacts.Contact, Contacts.Taken, Contacts.Notice, Contacts.takes, Book.of_peer}
+use Rattle.tva_host.specs.{declared.made.Made.Made, declared.made.Receipt.Receipt, History.History}
 use Rattle.tva_host.specs.Sending.{shim_of, next_shape, next_made, with_made}
 
 abbrev pub taken_or_ignored : Bool → BackKind

@@ -1,28 +1,17 @@
 -- Product: the packets that a host makes.
 use Rattle.std.specs.Prelude.{ℕ, Bool, true, false, if◌then◌else◌, []}
-use Rattle.tva_base.specs.declared.addresses.Address.{Address}
-use Rattle.tva_base.specs.declared.packet.Flow.{Flow}
-use Rattle.tva_base.specs.declared.packet.Upper.{Upper}
+use Rattle.tva_base.specs.declared.{addresses.Address.Address, packet.Flow.Flow, packet.Upper.Upper}
+use Rattle.tva_base.specs.{declared.plan.HostPlan.HostPlan, declared.event.ShapeKind.ShapeKind, Ordinals.ordinal_behind}
 use Rattle.tva_base.specs.declared.packet.Upper.TheVariants as upper
-use Rattle.tva_base.specs.declared.plan.HostPlan.{HostPlan}
-use Rattle.tva_base.specs.Ordinals.{ordinal_behind}
-use Rattle.tva_base.specs.declared.event.ShapeKind.{ShapeKind}
 use Rattle.tva_base.specs.declared.event.ShapeKind.TheVariants as kind_shown
-use Rattle.tva_shim.specs.declared.kinds.Shown.{Shown}
-use Rattle.tva_shim.specs.declared.kinds.Kind.{Kind}
+use Rattle.tva_shim.specs.declared.kinds.{Shown.Shown, Kind.Kind, ReturnInfo.ReturnInfo}
+use Rattle.tva_shim.specs.{declared.packets.Carried.Carried, Shims.ShimData, Packets.PacketData, Packets.made_with}
 use Rattle.tva_shim.specs.declared.kinds.Kind.TheVariants as kinds
-use Rattle.tva_shim.specs.declared.kinds.ReturnInfo.{ReturnInfo}
 use Rattle.tva_shim.specs.declared.kinds.ReturnInfo.TheVariants as backs
-use Rattle.tva_shim.specs.declared.packets.Carried.{Carried}
 use Rattle.tva_shim.specs.declared.packets.Carried.TheVariants as carried
-use Rattle.tva_shim.specs.Shims.{ShimData}
-use Rattle.tva_shim.specs.Packets.{PacketData, made_with}
 use Rattle.tva_policy.specs.Grants.{Sent}
-use Rattle.tva_sender.specs.declared.shape.Held.{Held}
-use Rattle.tva_sender.specs.declared.shape.Shape.{Shape}
+use Rattle.tva_sender.specs.{declared.shape.Held.Held, declared.shape.Shape.Shape, Shapes.shape_of, Book.of_peer}
 use Rattle.tva_sender.specs.declared.shape.Shape.TheVariants as shapes
-use Rattle.tva_sender.specs.Shapes.{shape_of}
-use Rattle.tva_sender.specs.Book.{of_peer}
 use Rattle.tva_host.specs.declared.made.Made.{Made}
 use Rattle.tva_host.specs.History.{History, with_deed, with_packet, with_prepared, next_nonce}
 

@@ -2,8 +2,7 @@
 use Rattle.std.specs.Prelude.{◌≤◌}
 use Rattle.tva_base.specs.Plan.{IsHostPlan}
 use Rattle.tva_sender.specs.Showable.{AreShowable}
-use Rattle.tva_host.specs.History.{History}
-use Rattle.tva_host.specs.Stands.{HostData, Keeps}
+use Rattle.tva_host.specs.{History.History, Stands.HostData, Stands.Keeps}
 
 -- by a valid plan, with a history in which a shim could carry all that was prepared and taken
 pub record HasHistory (v : HostData) : Type 0 where

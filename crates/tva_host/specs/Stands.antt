@@ -1,7 +1,6 @@
 -- Crate: what a host keeps, and for which calls it stands.
 use Rattle.std.specs.Prelude.{◌≡◌, ◌≤◌, ℕ, List}
-use Rattle.tva_base.specs.declared.plan.HostPlan.{HostPlan}
-use Rattle.tva_base.specs.Ordinals.{ordinal_behind}
+use Rattle.tva_base.specs.{declared.plan.HostPlan.HostPlan, Ordinals.ordinal_behind}
 use Rattle.tva_policy.specs.Notes as policy
 use Rattle.tva_sender.specs.Book as sender
 use Rattle.tva_host.specs.History.{History, next_nonce}

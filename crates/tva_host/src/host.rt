@@ -1,9 +1,7 @@
 // A host.
 ghost use Rattle.std.specs.Prelude.{◌≡◌, ◌≤◌, ◌+◌, min, ◌==◌, List, [], ◌∷◌, ◌++◌, IfOk, IfSome, OnErr};
-ghost use Rattle.tva_base.specs.Plan.{IsHostPlan};
-ghost use Rattle.tva_base.specs.Versions.{IsVersion};
-ghost use Rattle.tva_shim.specs.Shims.{IsReturn};
-ghost use Rattle.tva_shim.specs.Packets.{IsCarried, IsUpper, Fills, upper_size};
+ghost use Rattle.tva_base.specs.{Plan.IsHostPlan, Versions.IsVersion};
+ghost use Rattle.tva_shim.specs.{Shims.IsReturn, Packets.IsCarried, Packets.IsUpper, Packets.Fills, Packets.upper_size};
 ghost use Rattle.tva_shim.specs.Shows.{back_in};
 ghost use Rattle.tva_policy.specs.Grants.{Sent};
 ghost use Rattle.tva_sender.specs.Showable.{IsShowable};
@@ -43,8 +41,7 @@ pub struct Host {
 }
 
 impl Model for Host {
-    ghost use Rattle.tva_host.specs.Stands.{HostData, host_data};
-    ghost use Rattle.tva_host.specs.Sound.{HasHistory};
+    ghost use Rattle.tva_host.specs.{Stands.HostData, Stands.host_data, Sound.HasHistory};
 
     ghost Value = { HostData };
 

@@ -1,21 +1,15 @@
 // What holds of every history of a host.
 ghost use Rattle.std.specs.Prelude.{◌≡◌, ℕ, ◌+◌, ◌==◌, true, false, List, IfSome, Some};
-ghost use Rattle.tva_base.specs.declared.addresses.Address.{Address};
-ghost use Rattle.tva_base.specs.declared.packet.Upper.{Upper};
+ghost use Rattle.tva_base.specs.declared.{addresses.Address.Address, packet.Upper.Upper, plan.HostPlan.HostPlan};
 ghost use Rattle.tva_base.specs.declared.packet.Upper.TheVariants as upper;
-ghost use Rattle.tva_base.specs.declared.plan.HostPlan.{HostPlan};
-ghost use Rattle.tva_shim.specs.declared.kinds.ReturnInfo.{ReturnInfo};
-ghost use Rattle.tva_shim.specs.declared.packets.Carried.TheVariants as carried;
-ghost use Rattle.tva_shim.specs.Layout.{return_size};
+ghost use Rattle.tva_shim.specs.{declared.kinds.ReturnInfo.ReturnInfo, Layout.return_size};
 ghost use Rattle.tva_shim.specs.Packets.{PacketData, packet_length};
-ghost use Rattle.tva_sender.specs.declared.shape.Shape.{Shape};
-ghost use Rattle.tva_sender.specs.Shapes.{length_of};
-ghost use Rattle.tva_sender.specs.Played.{IsPlayed, NoneLater};
+ghost use Rattle.tva_shim.specs.declared.packets.Carried.TheVariants as carried;
+ghost use Rattle.tva_sender.specs.{declared.shape.Shape.Shape, Shapes.length_of, Played.IsPlayed, Played.NoneLater};
 ghost use Rattle.tva_sender.specs.Book.{of_peer};
-ghost use Rattle.tva_host.specs.History.{History};
+ghost use Rattle.tva_host.specs.{History.History, Calls.Call, Calls.history_of, Calls.last_time, Calls.NeverFall};
 ghost use Rattle.tva_host.specs.Sending.{is_legacy, shim_of, next_shape, intended};
 ghost use Rattle.tva_host.specs.Receiving.{body_of, reply_of, upper_of, receipt_of};
-ghost use Rattle.tva_host.specs.Calls.{Call, history_of, last_time, NeverFall};
 
 /// What a host's calls make with each of its peers is what a sender can have with it, and no packet is
 /// prepared later than the last call, whatever is called at times that never fall.

@@ -1,8 +1,7 @@
 // What a packet carries by its shape.
 ghost use Rattle.std.specs.Prelude.{◌≡◌, ℕ};
 ghost use Rattle.tva_base.specs.Versions.{IsVersion};
-ghost use Rattle.tva_shim.specs.Shims.{IsKind, IsShown, IsReturn};
-ghost use Rattle.tva_shim.specs.Packets.{IsCarried};
+ghost use Rattle.tva_shim.specs.{Shims.IsKind, Shims.IsShown, Shims.IsReturn, Packets.IsCarried};
 ghost use Rattle.tva_sender.specs.Showable.{IsShowable, IsShowableHeld};
 ghost use Rattle.tva_host.specs.Sending.{kind_shown_of, is_legacy, held_shown, kind_of, shim_of, carried_by};
 

@@ -2,9 +2,7 @@
 ghost use Rattle.std.specs.Prelude.{◌≡◌, ℕ, ◌<◌, ◌≤◌, ◌+◌, ◌∷◌, [], ◌++◌, ◌==◌, map, filter, nat_lt, if◌then◌else◌, IfSome};
 ghost use Rattle.arrayvec.specs.ArrayVec.{array_vec_len};
 ghost use Rattle.tva_base.specs.Versions.{AreRights, AreSomeRights};
-ghost use Rattle.tva_shim.specs.Shims.{IsReturn};
-ghost use Rattle.tva_shim.specs.Changes.{nonzero_tags};
-ghost use Rattle.tva_shim.specs.Layout.{return_size};
+ghost use Rattle.tva_shim.specs.{Shims.IsReturn, Changes.nonzero_tags, Layout.return_size};
 ghost use Rattle.tva_caps.specs.Formula.{capability_of};
 ghost use Rattle.tva_host.specs.Receiving.{what_kind, what_came, claim_of, claim_in, shows_grant, is_nothing, notice_for, granted, stray, brought_by};
 ghost use Rattle.tva_host.specs.Claims.{claim_view};

@@ -131,10 +131,10 @@ rank None = 0
 rank (Some p) = p + 1
 
 pub rank-le : (hs : List (Option ℕ)) (n b : ℕ) (o : Option ℕ) → IsLastBelow hs n b o → rank o ≤ n
-rank-le hs n b v3 k = grind arith
+rank-le hs n b o k = grind arith
 
 pub walk_place : (hs : List (Option ℕ)) (place b : ℕ) (above : Option ℕ) (other : ℕ) → IsWalk hs place b above (Some other) → get_or hs other None ≡ Some b
-walk_place hs place b v3 other w = grind arith
+walk_place hs place b above other w = grind arith
 
 -- what is read of the chains
 pub start_read : (last before hs : List (Option ℕ)) (b : ℕ) (x : Option ℕ) → AreLinked last before hs → b < length last → x ≡ get_or last b x → IsLastBelow hs (length hs) b x

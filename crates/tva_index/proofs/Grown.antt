@@ -1,17 +1,11 @@
 -- The tree of keys with a key more, and with another number.
-use Rattle.tva_index.proofs.Common.{◌≡◌, ℕ, zero, suc, ◌+◌, ◌*◌, ◌^◌, ◌<◌, List, [], ◌∷◌, ◌++◌, length, get_or, set, Option, Some, None, refl, sym, ap, ◌∙◌, subst, inl, inr, ◌⊎◌, arith, cases_lt, cases_eq, get_or-set_same, get_or-set_other, get_or_past, get_or_append_left, get_or_push, length-set, length_push, Numbered, numbered, link_at, entry_at, link_by, spot, IsFree, IsKeyTree, IsMissing}
+use Rattle.tva_index.proofs.Common.{◌≡◌, ℕ, zero, suc, ◌+◌, ◌*◌, ◌^◌, ◌<◌, List, [], ◌∷◌, ◌++◌, length, get_or, set, Option, Some, None, refl, sym, ap, ◌∙◌, subst, inl, inr, ◌⊎◌, arith, cases_lt, cases_eq, get_or_past, get_or_append_left, get_or_push, length-set, length_push, Numbered, numbered, link_at, entry_at, link_by, spot, IsFree, IsKeyTree, IsMissing}
 use Rattle.tva_index.proofs.Homes.{here, elsewhere, added}
 use Rattle.tva_index.proofs.Paths.{key_is, same_entry, no_entry, no_link, step-on, came}
 
--- an entry that was written, and the others
-pub entry_here : (es : List (Option Numbered)) (p q : ℕ) (v : Option Numbered) → p < length es → q ≡ p → entry_at (set es p v) q ≡ v
-entry_here es p q v l e = subst (λ z. get_or (set es p v) z None ≡ v) (sym e) (get_or-set_same es p v None l)
-
-pub entry_there : (es : List (Option Numbered)) (p q : ℕ) (v : Option Numbered) → (q ≡ p → ⊥) → entry_at (set es p v) q ≡ entry_at es q
-entry_there es p q v n = get_or-set_other es p q v None n
-
+-- what is read where an entry was written
 pub entry_read : (es : List (Option Numbered)) (p q : ℕ) (v n : Numbered) → p < length es → entry_at (set es p (Some v)) q ≡ Some n → ((q ≡ p) × (n ≡ v)) ⊎ ((q ≡ p → ⊥) × (entry_at es q ≡ Some n))
-entry_read es p q v n l h = grind (arith, cases_eq, same_entry, entry_here, entry_there)
+entry_read es p q v n l h = grind (arith, cases_eq, same_entry, here, elsewhere)
 
 -- a place with an entry is one of the places
 pub entry_within : (es : List (Option Numbered)) (p : ℕ) (n : Numbered) → entry_at es p ≡ Some n → p < length es
@@ -20,7 +14,7 @@ entry_within es p n h = elim (cases_lt p (length es)) [ inl l ↦ l | inr l ↦ 
 module _ (links : List (Option ℕ)) (es : List (Option Numbered)) (free : List ℕ) (t : IsKeyTree links es free) where
   -- a walk comes by no free place
   pub not_free : (key depth p : ℕ) → spot links key depth ≡ Some p → IsFree links es p → ⊥
-  not_free key v1 p e f = grind (arith, t.leads, no_entry, f.entry)
+  not_free key depth p e f = grind (arith, t.leads, no_entry, f.entry)
 
   pub no_way : (p : ℕ) → IsFree links es p → (e : ℕ) → link_at links e ≡ Some p → ⊥
   no_way p f e l = let o = t.leads e p l in no_entry (entry_at es p) o.2 f.entry o.3
@@ -45,23 +39,14 @@ module _ (links : List (Option ℕ)) (es : List (Option Numbered)) (rest : List 
 
   way_grows : (k d p : ℕ) → spot links k d ≡ Some p → spot L k d ≡ Some p
   way_grows k zero p e = e
-  way_grows k (suc d) p e =
-      let c = came links k d p e in
-      let other : link_by k d c.0 ≡ link → ⊥ = λ z. no_link (link_at links link) p m.nowhere (subst (λ x. link_at links x ≡ Some p) z c.2) in
-      step-on L k d c.0 p (way_grows k d c.0 c.1) (elsewhere links link (link_by k d c.0) (Some f) other ∙ c.2)
+  way_grows k (suc d) p e = grind (arith, came links k d p e, no_link, m.nowhere, step-on, elsewhere, way_grows k d)
 
   -- no link of a free place was written
   link_other : (g b : ℕ) → IsFree links es g → b < 2 → 2 * g + b ≡ link → ⊥
   link_other g b h l e = grind (arith, not_free, m.depth, m.path)
 
   still_free : (g : ℕ) → IsFree links es g → (g ≡ f → ⊥) → IsFree L E g
-  still_free g h other = record {
-    behind = h.behind;
-    within = let w = h.within in omega (arith, w, length-set es f (Some (numbered key number)));
-    entry = entry_there es f g (Some (numbered key number)) other ∙ h.entry;
-    low = elsewhere links link (2 * g) (Some f) (λ e. link_other g 0 h (omega arith) (omega (arith, e))) ∙ h.low;
-    high = elsewhere links link (2 * g + 1) (Some f) (λ e. link_other g 1 h (omega arith) e) ∙ h.high;
-  }
+  still_free g h other = grind (arith, length-set, elsewhere, link_other)
 
   pub grown : IsKeyTree L E rest
   grown =
@@ -73,12 +58,12 @@ module _ (links : List (Option ℕ)) (es : List (Option Numbered)) (rest : List 
         sizes = let s = t.sizes in omega (arith, n, nl, s);
         some = let s = t.some in omega (arith, n, s);
         few = let s = t.few in omega (arith, n, s);
-        first = let b = last_free.behind in entry_there es f 0 (Some v) (λ e. absurd (omega (arith, e, b))) ∙ t.first;
+        first = let b = last_free.behind in elsewhere es f 0 (Some v) (λ e. absurd (omega (arith, e, b))) ∙ t.first;
         leads = λ e p h. elim (added links link e f p m.within h) [
-          | inl y ↦ (let b = last_free.behind in (omega (arith, y.1, b), omega (arith, y.1, w, n), v, entry_here es f p (Some v) w y.1))
+          | inl y ↦ (let b = last_free.behind in (omega (arith, y.1, b), omega (arith, y.1, w, n), v, here es f p (Some v) w y.1))
           | inr y ↦ (
               let o = t.leads e p y.1 in
-              (o.0, omega (arith, o.1, n), o.2, entry_there es f p (Some v) (λ z. no_way links es (rest ++ f ∷ []) t f last_free e (subst (λ x. link_at links e ≡ Some x) z y.1)) ∙ o.3))
+              (o.0, omega (arith, o.1, n), o.2, elsewhere es f p (Some v) (λ z. no_way links es (rest ++ f ∷ []) t f last_free e (subst (λ x. link_at links e ≡ Some x) z y.1)) ∙ o.3))
         ];
         once = λ e g p h k. elim (added links link e f p m.within h) [
           | inl y ↦ elim (added links link g f p m.within k) [
@@ -133,12 +118,12 @@ module _ (links : List (Option ℕ)) (es : List (Option Numbered)) (free : List 
         sizes = let s = t.sizes in omega (arith, n, s);
         some = let s = t.some in omega (arith, n, s);
         few = let s = t.few in omega (arith, n, s);
-        first = entry_there es p 0 (Some v) (λ e. no_entry (entry_at es 0) old t.first (subst (λ z. entry_at es z ≡ Some old) (sym e) is)) ∙ t.first;
+        first = elsewhere es p 0 (Some v) (λ e. no_entry (entry_at es 0) old t.first (subst (λ z. entry_at es z ≡ Some old) (sym e) is)) ∙ t.first;
         leads = λ e q h.
             let o = t.leads e q h in
             elim (cases_eq q p) [
-              | inl z ↦ (o.0, omega (arith, o.1, n), v, entry_here es p q (Some v) w z)
-              | inr z ↦ (o.0, omega (arith, o.1, n), o.2, entry_there es p q (Some v) z ∙ o.3)
+              | inl z ↦ (o.0, omega (arith, o.1, n), v, here es p q (Some v) w z)
+              | inr z ↦ (o.0, omega (arith, o.1, n), o.2, elsewhere es p q (Some v) z ∙ o.3)
             ];
         once = t.once;
         reached = λ q x h. let y = before q x h in let r = t.reached q y.0 y.1 in (r.0, r.1, subst (λ z. spot links z r.0 ≡ Some q) y.2 r.2);
@@ -149,7 +134,7 @@ module _ (links : List (Option ℕ)) (es : List (Option Numbered)) (free : List 
             record {
               behind = h.behind;
               within = let x = h.within in omega (arith, x, n);
-              entry = entry_there es p (get_or free i 0) (Some v) (λ e. no_entry (entry_at es (get_or free i 0)) old h.entry (subst (λ z. entry_at es z ≡ Some old) (sym e) is)) ∙ h.entry;
+              entry = elsewhere es p (get_or free i 0) (Some v) (λ e. no_entry (entry_at es (get_or free i 0)) old h.entry (subst (λ z. entry_at es z ≡ Some old) (sym e) is)) ∙ h.entry;
               low = h.low;
               high = h.high;
             };

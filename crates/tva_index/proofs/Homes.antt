@@ -13,10 +13,10 @@ pub at_some : (hs : List (Option ℕ)) (n b : ℕ) (o : Option ℕ) (m : ℕ) �
 at_some hs n b o m k e = subst (IsLastBelow hs n b) e k
 
 -- a place that was written, and the others
-pub here : (hs : List (Option ℕ)) (p q : ℕ) (v : Option ℕ) → p < length hs → q ≡ p → get_or (set hs p v) q None ≡ v
+pub here : {X : Type 0} (hs : List (Option X)) (p q : ℕ) (v : Option X) → p < length hs → q ≡ p → get_or (set hs p v) q None ≡ v
 here hs p q v l e = subst (λ z. get_or (set hs p v) z None ≡ v) (sym e) (get_or-set_same hs p v None l)
 
-pub elsewhere : (hs : List (Option ℕ)) (p q : ℕ) (v : Option ℕ) → (q ≡ p → ⊥) → get_or (set hs p v) q None ≡ get_or hs q None
+pub elsewhere : {X : Type 0} (hs : List (Option X)) (p q : ℕ) (v : Option X) → (q ≡ p → ⊥) → get_or (set hs p v) q None ≡ get_or hs q None
 elsewhere hs p q v n = get_or-set_other hs p q v None n
 
 -- what is in a bucket after a place was taken out was in it before
@@ -82,4 +82,4 @@ last_is hs p n b l w g = (
 
 -- the last below a bound is the last before a place that has none of the bucket between
 pub last_moves : (hs : List (Option ℕ)) (p n b : ℕ) (o : Option ℕ) → get_or hs p None ≡ None → p < n → IsLastBelow hs n b o → ((q : ℕ) → p < q → q < n → get_or hs q None ≡ Some b → ⊥) → IsLastBelow hs p b o
-last_moves hs p n b v4 f w k g = grind (arith, not_free, cases_order)
+last_moves hs p n b o f w k g = grind (arith, not_free, cases_order)

@@ -41,13 +41,7 @@ root-le n xs t j a b = root_within n xs t j j (omega arith) a b
 
 -- so the leaf that has the root's number has a least one
 pub least_at : (n leaf p : ℕ) (xs : List ℕ) → AreNodes n xs → length xs ≡ 2 * n → n ≤ leaf → leaf < 2 * n → get_or xs leaf 0 ≡ get_or xs 1 0 → n + p ≡ leaf → IsLeastPlace (drop n xs) (Some p)
-least_at n leaf p xs t s a b e w = (
-  omega (arith, length-drop n xs),
-  λ q l.
-      let r = root-le n xs t (n + q) (omega arith) (omega (arith, l, length-drop n xs)) in
-      let f : get_or xs (n + p) 0 ≡ get_or xs leaf 0 = ap (λ (z : ℕ). get_or xs z 0) w in
-      omega (arith, get_or-drop n xs p 0, get_or-drop n xs q 0, r, f, e),
-)
+least_at n leaf p xs t s a b e w = grind (arith, length-drop n xs, root-le n xs t, get_or-drop n xs p 0, get_or-drop n xs)
 
 -- and the root has at least what none of the numbers is below
 root_above : (n b : ℕ) (xs : List ℕ) → AreNodes n xs → ((p : ℕ) → p < n → b ≤ get_or xs (n + p) 0) → (k j : ℕ) → 2 * n ≤ j + k → 1 ≤ j → j < 2 * n → b ≤ get_or xs j 0

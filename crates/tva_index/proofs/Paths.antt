@@ -5,7 +5,7 @@ use Rattle.tva_index.proofs.Common.{◌≡◌, ℕ, zero, suc, ◌+◌, ◌*◌,
 
 -- an entry of the key, and a key without one
 pub has_key : (key : ℕ) (o : Option Numbered) → HasKey key o → (n : Numbered) × (o ≡ Some n) × (n.key ≡ key)
-has_key key v1 h = grind arith
+has_key key o h = grind arith
 
 pub key_is : (key : ℕ) (o : Option Numbered) (n : Numbered) → o ≡ Some n → n.key ≡ key → HasKey key o
 key_is key o n e h = subst (HasKey key) (sym e) h
@@ -56,7 +56,7 @@ step-off : (links : List (Option ℕ)) (key depth at : ℕ) → spot links key d
 step-off links key depth at e l = ap (option_and_then (λ (p : ℕ). link_at links (link_by key depth p))) e ∙ l
 
 came-by : (links : List (Option ℕ)) (key depth p : ℕ) (o : Option ℕ) → option_and_then (λ (q : ℕ). link_at links (link_by key depth q)) o ≡ Some p → (q : ℕ) × (o ≡ Some q) × (link_at links (link_by key depth q) ≡ Some p)
-came-by links key depth p v4 e = grind arith
+came-by links key depth p o e = grind arith
 
 -- the step before
 pub came : (links : List (Option ℕ)) (key depth p : ℕ) → spot links key (suc depth) ≡ Some p → (q : ℕ) × (spot links key depth ≡ Some q) × (link_at links (link_by key depth q) ≡ Some p)
@@ -73,7 +73,7 @@ gone links key depth here (suc more) l = elim (cases_lt depth (suc more)) [
 module _ (links : List (Option ℕ)) (es : List (Option Numbered)) (free : List ℕ) (t : IsKeyTree links es free) where
   -- a walk stays within the tree: at the first place, or where a link leads
   pub stays : (key depth p : ℕ) → spot links key depth ≡ Some p → p < length es
-  stays key v1 p e = grind (arith, t.leads)
+  stays key depth p e = grind (arith, t.leads)
 
   pub link_within : (key depth p : ℕ) → spot links key depth ≡ Some p → link_by key depth p < length links
   link_within key depth p e = let l = stays key depth p e in omega (arith, l, t.sizes)
@@ -82,14 +82,8 @@ module _ (links : List (Option ℕ)) (es : List (Option Numbered)) (free : List 
   pub one_way : (a b d e p : ℕ) → spot links a d ≡ Some p → spot links b e ≡ Some p
       → (d ≡ e) × ((c : ℕ) → c < d → bits_past a c % 2 ≡ bits_past b c % 2) × ((c : ℕ) → c ≤ d → spot links a c ≡ spot links b c)
   one_way a b zero zero p h k = (refl, (λ c l. absurd (omega (arith, l))), λ c l. let z : c ≡ 0 = omega (arith, l) in subst (λ x. spot links a x ≡ spot links b x) (sym z) refl)
-  one_way a b zero (suc e) p h k =
-      let q = came links b e p k in
-      let z : 0 ≡ p = cc in
-      absurd (omega (arith, z, (t.leads (link_by b e q.0) p q.2).0))
-  one_way a b (suc d) zero p h k =
-      let q = came links a d p h in
-      let z : 0 ≡ p = cc in
-      absurd (omega (arith, z, (t.leads (link_by a d q.0) p q.2).0))
+  one_way a b zero (suc e) p h k = grind (arith, t.leads)
+  one_way a b (suc d) zero p h k = grind (arith, t.leads)
   one_way a b (suc d) (suc e) p h k =
       let q = came links a d p h in
       let r = came links b e p k in

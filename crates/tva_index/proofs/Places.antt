@@ -64,4 +64,4 @@ entries_of-unused (suc n) = ap (λ (z : List (Option Numbered)). None ∷ z) (en
 
 -- a link to a place other than the first
 pub led_to-some : (p : ℕ) → 0 < p → led_to p ≡ Some p
-led_to-some v0 l = grind arith
+led_to-some p l = grind arith

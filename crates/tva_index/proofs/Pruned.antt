@@ -2,7 +2,7 @@
 use Rattle.tva_index.proofs.Common.{◌≡◌, ℕ, zero, suc, ◌+◌, ◌*◌, ◌%◌, ◌^◌, ◌<◌, List, [], ◌∷◌, ◌++◌, length, get_or, set, Option, Some, None, refl, sym, ap, ◌∙◌, subst, inl, inr, ◌⊎◌, arith, cases_lt, cases_eq, get_or_append_left, get_or_push, get_or_past, length-set, length_push, Numbered, Led, link_at, entry_at, bits_past, link_by, spot, IsFree, IsKeyTree, IsLeafBelow, IsWithout}
 use Rattle.tva_index.proofs.Homes.{here, elsewhere, removed}
 use Rattle.tva_index.proofs.Paths.{has_key, same_entry, no_entry, no_link, same_place, step-on, came}
-use Rattle.tva_index.proofs.Grown.{entry_here, entry_there, entry_within}
+use Rattle.tva_index.proofs.Grown.{entry_within}
 
 module _ (links : List (Option ℕ)) (es : List (Option Numbered)) (free : List ℕ) (t : IsKeyTree links es free) (key x : ℕ) (leaf : Led) (b : IsLeafBelow links es x leaf) (old : Numbered) (is : entry_at es x ≡ Some old) (same : old.key ≡ key) where
   abbrev y : ℕ
@@ -31,13 +31,13 @@ module _ (links : List (Option ℕ)) (es : List (Option Numbered)) (free : List 
   size = length-set (set es x (Some m)) y None ∙ length-set es x (Some m)
 
   at_leaf : (p : ℕ) → p ≡ y → entry_at E p ≡ None
-  at_leaf p e = entry_here (set es x (Some m)) y p None (let w = y_within in omega (arith, w, length-set es x (Some m))) e
+  at_leaf p e = here (set es x (Some m)) y p None (let w = y_within in omega (arith, w, length-set es x (Some m))) e
 
   at_place : (p : ℕ) → p ≡ x → (p ≡ y → ⊥) → entry_at E p ≡ Some m
-  at_place p e o = entry_there (set es x (Some m)) y p None o ∙ entry_here es x p (Some m) x_within e
+  at_place p e o = elsewhere (set es x (Some m)) y p None o ∙ here es x p (Some m) x_within e
 
   at_other : (p : ℕ) → (p ≡ x → ⊥) → (p ≡ y → ⊥) → entry_at E p ≡ entry_at es p
-  at_other p n o = entry_there (set es x (Some m)) y p None o ∙ entry_there es x p (Some m) n
+  at_other p n o = elsewhere (set es x (Some m)) y p None o ∙ elsewhere es x p (Some m) n
 
   entry_cut : (p : ℕ) (n : Numbered) → entry_at E p ≡ Some n → (p ≡ y → ⊥) × (((p ≡ x) × (n ≡ m)) ⊎ ((p ≡ x → ⊥) × (entry_at es p ≡ Some n)))
   entry_cut p n h = grind (arith, cases_eq, no_entry, at_leaf, same_entry, at_place, at_other)
@@ -47,10 +47,7 @@ module _ (links : List (Option ℕ)) (es : List (Option Numbered)) (free : List 
   link_cut e p h = grind (arith, removed, link_length, t.once)
 
   link_none : (e : ℕ) → link_at links e ≡ None → link_at L e ≡ None
-  link_none e h = elim (cases_eq e leaf.link) [
-    | inl z ↦ here links leaf.link e None link_length z
-    | inr z ↦ elsewhere links leaf.link e None z ∙ h
-  ]
+  link_none e h = grind (arith, cases_eq, here, elsewhere, link_length)
 
   leaf_off : (c : ℕ) → c < 2 → link_at links (2 * y + c) ≡ None
   leaf_off c l = grind (arith, cases_eq)
@@ -68,22 +65,10 @@ module _ (links : List (Option ℕ)) (es : List (Option Numbered)) (free : List 
   free_other g h = grind (arith, no_entry, h.entry)
 
   still_free : (g : ℕ) → IsFree links es g → IsFree L E g
-  still_free g h = let o = free_other g h in record {
-    behind = h.behind;
-    within = let w = h.within in omega (arith, w, size);
-    entry = at_other g o.0 o.1 ∙ h.entry;
-    low = link_none (2 * g) h.low;
-    high = link_none (2 * g + 1) h.high;
-  }
+  still_free g h = grind (arith, size, free_other, at_other, link_none)
 
   now_free : IsFree L E y
-  now_free = record {
-    behind = (t.leads leaf.link y b.below.link).0;
-    within = let w = y_within in omega (arith, w, size);
-    entry = at_leaf y refl;
-    low = link_none (2 * y) b.low;
-    high = link_none (2 * y + 1) b.high;
-  }
+  now_free = grind (arith, size, t.leads, y_within, at_leaf, link_none, b.low, b.high)
 
   free_at : (i : ℕ) → i < length (free ++ y ∷ []) → ((i < length free) × (get_or (free ++ y ∷ []) i 0 ≡ get_or free i 0)) ⊎ ((i ≡ length free) × (get_or (free ++ y ∷ []) i 0 ≡ y))
   free_at i l = grind (arith, cases_lt, get_or_append_left, length_push, get_or_push)

@@ -1,7 +1,8 @@
 -- The places of keys in a ring, by their numbers.
 use Rattle.tva_index.proofs.Common.{◌≡◌, ℕ, zero, suc, ◌+◌, ◌-◌, ◌%◌, ◌^◌, ◌<◌, List, [], ◌∷◌, ◌++◌, length, get_or, Option, Some, None, refl, sym, ap, ◌∙◌, subst, inl, inr, arith, option_map, cases_lt, cases_eq, eq-eqb, ne_eqb, get_or_append_left, get_or_push, length_push, Numbered, numbered, entry_at, HasKey, IsAbsent, IsKeyTree, IsPut, IsWritten, IsWithout, place_in, AreNumbered}
 use Rattle.tva_index.proofs.Paths.{has_key, key_is, same_entry, no_entry}
-use Rattle.tva_index.proofs.Grown.{entry_here, entry_there, entry_read}
+use Rattle.tva_index.proofs.Grown.{entry_read}
+use Rattle.tva_index.proofs.Homes.{here, elsewhere}
 
 -- ## the place of a key in a list
 
@@ -17,7 +18,7 @@ place_none key (k ∷ ks) n =
     rw (ne_eqb k key (n 0 (omega arith))) (ap (option_map (λ (m : ℕ). suc m)) (place_none key ks (λ i l. n (suc i) (omega (arith, l)))))
 
 none_next : (o : Option ℕ) → option_map (λ (n : ℕ). suc n) o ≡ None → o ≡ None
-none_next v0 e = grind arith
+none_next o e = grind arith
 
 some_none : (n : ℕ) → (Some n ≡ None) → ⊥
 some_none n e = absurd (cc)
@@ -71,13 +72,13 @@ module _ (places first : ℕ) (keys : List ℕ) (links : List (Option ℕ)) (es 
               let far : x.0 ≡ w.at → ⊥ = λ e. no_entry (entry_at es x.0) (numbered (get_or keys i 0) ((first + i) % 2 ^ 32)) (subst (λ z. entry_at es z ≡ None) (sym e) w.free) x.1 in (
                 x.0,
                 subst (λ (z : List (Option Numbered)). entry_at z x.0 ≡ Some (numbered (get_or (keys ++ key ∷ []) i 0) ((first + i) % 2 ^ 32))) (sym w.is)
-                    (entry_there es w.at x.0 (Some v) far ∙ (x.1 ∙ ap (λ (z : ℕ). Some (numbered z ((first + i) % 2 ^ 32))) (sym (get_or_append_left keys (key ∷ []) 0 i k)))),
+                    (elsewhere es w.at x.0 (Some v) far ∙ (x.1 ∙ ap (λ (z : ℕ). Some (numbered z ((first + i) % 2 ^ 32))) (sym (get_or_append_left keys (key ∷ []) 0 i k)))),
               ))
           | inr k ↦ (
               let e : length keys ≡ i = omega (arith, k, l, m) in (
                 w.at,
                 subst (λ (z : List (Option Numbered)). entry_at z w.at ≡ Some (numbered (get_or (keys ++ key ∷ []) i 0) ((first + i) % 2 ^ 32))) (sym w.is)
-                    (entry_here es w.at w.at (Some v) w.within refl
+                    (here es w.at w.at (Some v) w.within refl
                     ∙ (ap (λ (z : ℕ). Some (numbered z ((first + length keys) % 2 ^ 32))) (sym (get_or_push keys key 0 i e)) ∙ ap (λ (z : ℕ). Some (numbered (get_or (keys ++ key ∷ []) i 0) ((first + z) % 2 ^ 32))) e)),
               ))
         ];
@@ -138,14 +139,14 @@ module _ (places first key : ℕ) (ks : List ℕ) (links : List (Option ℕ)) (e
               let far : x.0 ≡ w.at → ⊥ = λ e. later_key i k (ap (λ (z : Numbered). z.key) (same_entry (entry_at es x.0) (numbered (get_or ks i 0) ((first + suc i) % 2 ^ 32)) old.0 x.1 (subst (λ z. entry_at es z ≡ Some old.0) (sym e) old.1)) ∙ old.2) in (
                 x.0,
                 subst (λ (z : List (Option Numbered)). entry_at z x.0 ≡ Some (numbered (get_or (ks ++ key ∷ []) i 0) (((first + 1) % 2 ^ 32 + i) % 2 ^ 32))) (sym w.is)
-                    (entry_there es w.at x.0 (Some v) far
+                    (elsewhere es w.at x.0 (Some v) far
                     ∙ (x.1 ∙ (ap (λ (z : ℕ). Some (numbered z ((first + suc i) % 2 ^ 32))) (sym (get_or_append_left ks (key ∷ []) 0 i k)) ∙ ap (λ (z : ℕ). Some (numbered (get_or (ks ++ key ∷ []) i 0) z)) (next_number i)))),
               ))
           | inr k ↦ (
               let e : length ks ≡ i = omega (arith, k, l, m) in (
                 w.at,
                 subst (λ (z : List (Option Numbered)). entry_at z w.at ≡ Some (numbered (get_or (ks ++ key ∷ []) i 0) (((first + 1) % 2 ^ 32 + i) % 2 ^ 32))) (sym w.is)
-                    (entry_here es w.at w.at (Some v) w.within refl
+                    (here es w.at w.at (Some v) w.within refl
                     ∙ (ap (λ (z : ℕ). Some (numbered z (((first + 1) % 2 ^ 32 + length ks) % 2 ^ 32))) (sym (get_or_push ks key 0 i e)) ∙ ap (λ (z : ℕ). Some (numbered (get_or (ks ++ key ∷ []) i 0) (((first + 1) % 2 ^ 32 + z) % 2 ^ 32))) e)),
               ))
         ];

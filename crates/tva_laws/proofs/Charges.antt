@@ -1,14 +1,11 @@
 -- Charges one by one, and uses beside their charges.
 use Rattle.tva_laws.proofs.Common.{◌≡◌, ◌≤◌, ◌<◌, ◌⊎◌, ℕ, ◌+◌, true, false, cond, List, [], ◌∷◌, ◌++◌, Option, Some, refl, ap, sym, subst, ◌∙◌, arith, sum_by, AllByRecursion, IfSome, unwrap_or, sum_by-cons, Grant, Rights, credit_of, Charge, same_grant, last_or, last_charge, bytes_under, bytes_of, end_of, by_bool, same_is, same_grant-self, Contact, Use, uses_in, uses, is_notice, after_notice, since_notice, life_of, nat_tests}
 use Rattle.tva_base.proofs.Lives.{latest_end-back}
+pub use Rattle.tva_base.proofs.Each.{each-right as each-behind}
 
 pub each-weaker : {X : Type 0} (P Q : X → Type 0) (xs : List X) → ((x : X) → P x → Q x) → AllByRecursion P xs → AllByRecursion Q xs
 each-weaker P Q [] f k = tt
 each-weaker P Q (x ∷ xs) f k = (f x k.0, each-weaker P Q xs f k.1)
-
-pub each-behind : {X : Type 0} (P : X → Type 0) (xs ys : List X) → AllByRecursion P (xs ++ ys) → AllByRecursion P ys
-each-behind P [] ys k = k
-each-behind P (x ∷ xs) ys k = each-behind P xs ys k.1
 
 -- the last charge
 each-last : (P : Charge → Type 0) (c : Charge) (cs : List Charge) → P c → AllByRecursion P cs → P (last_or c cs)

@@ -1,5 +1,5 @@
 -- The logs of the walk by a changed route are a run.
-use Rattle.tva_laws.proofs.Common.{◌≡◌, ℕ, zero, suc, true, false, List, [], ◌∷◌, take, Some, refl, subst, arith, same_Some, Fate, in_force, credit_of, PacketData, layout, two_bytes, six_bytes, eight_bytes, number_bytes, list_verdict, nonce_verdict, is_granted, under_grant, decision, link_to, answer_to_shown, answer_to_nonce, judged_shim, handle, intended, after_intending, receipt_of, after_receipt, Router, Host, from_source, Input, FromTrace, Arrival, Site, site_of, Arrived, Entry, input_source, content, arrived, GoesOn, due, start_after, at_time, links_out, log_at, reaches, site_at, HasLog, IsRunTo, segment_due, range_of, after_upper, answer_to, walk_host_b, denying_a, charged_to, first_router, second_router, detour_config, detour_rows, detour_row, detour_logs, detour_log_a, detour_log_b, log_first, log_second, first_before_again, first_before_list, second_before_list, detour_until, asked, narrow_caps, wide_caps, narrow_list, narrow_nonce, wide_list, told, refused, by_first, by_second, back_by_first, nat_tests}
+use Rattle.tva_laws.proofs.Common.{◌≡◌, ℕ, zero, suc, true, false, List, [], ◌∷◌, take, Some, refl, subst, arith, same_Some, Fate, in_force, credit_of, PacketData, layout, two_bytes, six_bytes, eight_bytes, number_bytes, list_verdict, nonce_verdict, is_granted, under_grant, decision, link_to, answer_to_shown, answer_to_nonce, judged_shim, handle, intended, after_intending, receipt_of, after_receipt, Router, Host, Input, FromTrace, Arrival, Site, site_of, Arrived, Entry, content, arrived, GoesOn, start_after, at_time, links_out, log_at, site_at, HasLog, IsRunTo, segment_due, range_of, after_upper, answer_to, walk_host_b, denying_a, charged_to, first_router, second_router, detour_config, detour_rows, detour_row, detour_logs, detour_log_a, detour_log_b, log_first, log_second, first_before_again, first_before_list, second_before_list, detour_until, asked, narrow_caps, wide_caps, narrow_list, narrow_nonce, wide_list, told, refused, by_first, by_second, back_by_first, nat_tests}
 use Rattle.tva_base.specs.declared.packet.Cause.TheVariants.{NoCapability}
 use Rattle.tva_laws.proofs.WorkedRuns.{none_from, has_by, by_number, triple, pair}
 use Rattle.tva_laws.specs.Detour.{answered}
@@ -51,25 +51,6 @@ b_inputs =
     ∷ Arrival (at_time 23031200) 5 (narrow_list 4 2 1 true)
     ∷ Arrival (at_time 2103003300) 5 (asked 5 2 by_second)
     ∷ []
-
-abbrev Gives : ℕ → List Input → ℕ → Type 0
-Gives node inputs s = from_source input_source s inputs ≡ due detour_until (reaches detour_config detour_rows detour_logs node s)
-
-first_gives : (s : ℕ) → Gives 0 first_inputs s
-unfolding layout two_bytes six_bytes eight_bytes number_bytes
-first_gives = by_number 7 (Gives 0 first_inputs) (refl, (refl, (refl, (refl, (refl, (refl, (refl, tt))))))) (λ n. none_from 6 (suc (suc (suc (suc (suc (suc (suc n))))))) first_inputs (omega arith) refl)
-
-second_gives : (s : ℕ) → Gives 1 second_inputs s
-unfolding layout two_bytes six_bytes eight_bytes number_bytes
-second_gives = by_number 7 (Gives 1 second_inputs) (refl, (refl, (refl, (refl, (refl, (refl, (refl, tt))))))) (λ n. none_from 6 (suc (suc (suc (suc (suc (suc (suc n))))))) second_inputs (omega arith) refl)
-
-a_gives : (s : ℕ) → Gives 2 a_inputs s
-unfolding layout two_bytes six_bytes eight_bytes number_bytes
-a_gives = by_number 7 (Gives 2 a_inputs) (refl, (refl, (refl, (refl, (refl, (refl, (refl, tt))))))) (λ n. none_from 6 (suc (suc (suc (suc (suc (suc (suc n))))))) a_inputs (omega arith) refl)
-
-b_gives : (s : ℕ) → Gives 3 b_inputs s
-unfolding layout two_bytes six_bytes eight_bytes number_bytes
-b_gives = by_number 7 (Gives 3 b_inputs) (refl, (refl, (refl, (refl, (refl, (refl, (refl, tt))))))) (λ n. none_from 6 (suc (suc (suc (suc (suc (suc (suc n))))))) b_inputs (omega arith) refl)
 
 -- ## what each node makes of them
 
@@ -132,23 +113,23 @@ Has site log = HasLog detour_config detour_rows detour_logs detour_until site lo
 
 first_has : Has first_site log_first
 unfolding layout two_bytes six_bytes eight_bytes number_bytes
-first_has = has_by detour_config detour_rows detour_logs detour_until first_site first_inputs log_first
-    (record { turns = refl; gives = first_gives; order = refl; early = refl; steps = first_steps; calm = (refl, (refl, (refl, tt))) })
+first_has = has_by _ _ _ _ _ first_inputs _
+    (record { turns = refl; gives = by_number 7 _ (refl, (refl, (refl, (refl, (refl, (refl, (refl, tt))))))) (λ n. none_from 6 (suc (suc (suc (suc (suc (suc (suc n))))))) first_inputs (omega arith) refl); order = refl; early = refl; steps = first_steps; calm = (refl, (refl, (refl, tt))) })
 
 second_has : Has second_site log_second
 unfolding layout two_bytes six_bytes eight_bytes number_bytes
-second_has = has_by detour_config detour_rows detour_logs detour_until second_site second_inputs log_second
-    (record { turns = refl; gives = second_gives; order = refl; early = refl; steps = second_steps; calm = (refl, tt) })
+second_has = has_by _ _ _ _ _ second_inputs _
+    (record { turns = refl; gives = by_number 7 _ (refl, (refl, (refl, (refl, (refl, (refl, (refl, tt))))))) (λ n. none_from 6 (suc (suc (suc (suc (suc (suc (suc n))))))) second_inputs (omega arith) refl); order = refl; early = refl; steps = second_steps; calm = (refl, tt) })
 
 a_has : Has a_site detour_log_a
 unfolding layout two_bytes six_bytes eight_bytes number_bytes
-a_has = has_by detour_config detour_rows detour_logs detour_until a_site a_inputs detour_log_a
-    (record { turns = refl; gives = a_gives; order = refl; early = refl; steps = a_steps; calm = (refl, tt) })
+a_has = has_by _ _ _ _ _ a_inputs _
+    (record { turns = refl; gives = by_number 7 _ (refl, (refl, (refl, (refl, (refl, (refl, (refl, tt))))))) (λ n. none_from 6 (suc (suc (suc (suc (suc (suc (suc n))))))) a_inputs (omega arith) refl); order = refl; early = refl; steps = a_steps; calm = (refl, tt) })
 
 b_has : Has b_site detour_log_b
 unfolding layout two_bytes six_bytes eight_bytes number_bytes
-b_has = has_by detour_config detour_rows detour_logs detour_until b_site b_inputs detour_log_b
-    (record { turns = refl; gives = b_gives; order = refl; early = refl; steps = b_steps; calm = (refl, tt) })
+b_has = has_by _ _ _ _ _ b_inputs _
+    (record { turns = refl; gives = by_number 7 _ (refl, (refl, (refl, (refl, (refl, (refl, (refl, tt))))))) (λ n. none_from 6 (suc (suc (suc (suc (suc (suc (suc n))))))) b_inputs (omega arith) refl); order = refl; early = refl; steps = b_steps; calm = (refl, tt) })
 
 has : (node : ℕ) (site : Site) → site_at detour_config node ≡ Some site → Has site (log_at detour_logs node)
 has zero site e = subst (λ (s : Site). Has s log_first) (same_Some first_site site e) first_has

@@ -1,5 +1,5 @@
 -- The network of the walk with a loss is valid, and its logs are a run.
-use Rattle.tva_laws.proofs.Common.{◌≡◌, ◌≤◌, ℕ, suc, false, List, [], ◌∷◌, Some, refl, arith, All-from_recursion, same_Some, DenyAll, in_force, credit_of, PacketData, layout, two_bytes, six_bytes, eight_bytes, number_bytes, list_verdict, nonce_verdict, is_granted, under_grant, decision, link_to, answer_to_shown, answer_to_nonce, judged_shim, handle, intended, after_intending, receipt_of, after_receipt, AreClassLimits, Router, Host, links_from, incoming_of, outgoing_of, IsLinkPlan, IsConfig, IsRow, AreTraceRows, from_source, Input, FromTrace, Arrival, Site, site_of, Arrived, Entry, input_source, content, arrived, GoesOn, due, start_after, at_time, links_out, log_at, reaches, site_at, HasLog, IsRunTo, segment_due, range_of, after_upper, answer_to, walk_router, denying_a, sends, a_request, a_list, a_nonce, b_grant, first_cap, first_request, first_grant, charged_to, short_link, loss_config, loss_rows, loss_logs, loss_log_a, loss_log_b, loss_log_router, loss_before_renewal, loss_until, late_renewal, late_renewed, nat_tests}
+use Rattle.tva_laws.proofs.Common.{◌≡◌, ◌≤◌, ℕ, suc, false, List, [], ◌∷◌, Some, refl, arith, All-from_recursion, same_Some, DenyAll, in_force, credit_of, PacketData, layout, two_bytes, six_bytes, eight_bytes, number_bytes, list_verdict, nonce_verdict, is_granted, under_grant, decision, link_to, answer_to_shown, answer_to_nonce, judged_shim, handle, intended, after_intending, receipt_of, after_receipt, AreClassLimits, Router, Host, links_from, incoming_of, outgoing_of, IsLinkPlan, IsConfig, IsRow, AreTraceRows, Input, FromTrace, Arrival, Site, site_of, Arrived, Entry, content, arrived, GoesOn, start_after, at_time, links_out, log_at, site_at, HasLog, IsRunTo, segment_due, range_of, after_upper, answer_to, walk_router, denying_a, sends, a_request, a_list, a_nonce, b_grant, first_cap, first_request, first_grant, charged_to, short_link, loss_config, loss_rows, loss_logs, loss_log_a, loss_log_b, loss_log_router, loss_before_renewal, loss_until, late_renewal, late_renewed, nat_tests}
 use Rattle.tva_laws.proofs.WorkedRuns.{none_from, has_by, by_number, pair}
 use Rattle.tva_laws.proofs.Walkable.{limits_fine, link_fine, config_with, valid_with, none_begins}
 use Rattle.tva_laws.proofs.Nodes.{b_site, lasts, before_first}
@@ -85,21 +85,6 @@ b_inputs =
     ∷ Arrival (at_time 12030840) 2 (a_nonce 4 1 false)
     ∷ []
 
-abbrev Gives : ℕ → List Input → ℕ → Type 0
-Gives node inputs s = from_source input_source s inputs ≡ due loss_until (reaches loss_config loss_rows loss_logs node s)
-
-router_gives : (s : ℕ) → Gives 0 router_inputs s
-unfolding layout two_bytes six_bytes eight_bytes number_bytes
-router_gives = by_number 5 (Gives 0 router_inputs) (refl, (refl, (refl, (refl, (refl, tt))))) (λ n. none_from 4 (suc (suc (suc (suc (suc n))))) router_inputs (omega arith) refl)
-
-a_gives : (s : ℕ) → Gives 1 a_inputs s
-unfolding layout two_bytes six_bytes eight_bytes number_bytes
-a_gives = by_number 5 (Gives 1 a_inputs) (refl, (refl, (refl, (refl, (refl, tt))))) (λ n. none_from 4 (suc (suc (suc (suc (suc n))))) a_inputs (omega arith) refl)
-
-b_gives : (s : ℕ) → Gives 2 b_inputs s
-unfolding layout two_bytes six_bytes eight_bytes number_bytes
-b_gives = by_number 5 (Gives 2 b_inputs) (refl, (refl, (refl, (refl, (refl, tt))))) (λ n. none_from 4 (suc (suc (suc (suc (suc n))))) b_inputs (omega arith) refl)
-
 -- ## what each node makes of them
 
 abbrev loss_router : Site
@@ -139,18 +124,18 @@ Has site log = HasLog loss_config loss_rows loss_logs loss_until site log
 
 router_has : Has loss_router loss_log_router
 unfolding layout two_bytes six_bytes eight_bytes number_bytes
-router_has = has_by loss_config loss_rows loss_logs loss_until loss_router router_inputs loss_log_router
-    (record { turns = refl; gives = router_gives; order = refl; early = refl; steps = router_steps; calm = (refl, (refl, tt)) })
+router_has = has_by _ _ _ _ _ router_inputs _
+    (record { turns = refl; gives = by_number 5 _ (refl, (refl, (refl, (refl, (refl, tt))))) (λ n. none_from 4 (suc (suc (suc (suc (suc n))))) router_inputs (omega arith) refl); order = refl; early = refl; steps = router_steps; calm = (refl, (refl, tt)) })
 
 a_has : Has loss_a loss_log_a
 unfolding layout two_bytes six_bytes eight_bytes number_bytes
-a_has = has_by loss_config loss_rows loss_logs loss_until loss_a a_inputs loss_log_a
-    (record { turns = refl; gives = a_gives; order = refl; early = refl; steps = a_steps; calm = (refl, tt) })
+a_has = has_by _ _ _ _ _ a_inputs _
+    (record { turns = refl; gives = by_number 5 _ (refl, (refl, (refl, (refl, (refl, tt))))) (λ n. none_from 4 (suc (suc (suc (suc (suc n))))) a_inputs (omega arith) refl); order = refl; early = refl; steps = a_steps; calm = (refl, tt) })
 
 b_has : Has b_site loss_log_b
 unfolding layout two_bytes six_bytes eight_bytes number_bytes
-b_has = has_by loss_config loss_rows loss_logs loss_until b_site b_inputs loss_log_b
-    (record { turns = refl; gives = b_gives; order = refl; early = refl; steps = b_steps; calm = (refl, tt) })
+b_has = has_by _ _ _ _ _ b_inputs _
+    (record { turns = refl; gives = by_number 5 _ (refl, (refl, (refl, (refl, (refl, tt))))) (λ n. none_from 4 (suc (suc (suc (suc (suc n))))) b_inputs (omega arith) refl); order = refl; early = refl; steps = b_steps; calm = (refl, tt) })
 
 has : (node : ℕ) (site : Site) → site_at loss_config node ≡ Some site → Has site (log_at loss_logs node)
 has node site e = grind (arith, nat_tests, same_Some, router_has, a_has, b_site, b_has)

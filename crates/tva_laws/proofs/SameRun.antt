@@ -1,5 +1,5 @@
 -- The logs of the walk over a restart with the same master are a run.
-use Rattle.tva_laws.proofs.Common.{◌≡◌, ℕ, suc, true, false, List, [], ◌∷◌, Some, refl, arith, same_Some, in_force, credit_of, PacketData, layout, two_bytes, six_bytes, eight_bytes, number_bytes, list_verdict, nonce_verdict, is_granted, under_grant, decision, link_to, answer_to_shown, answer_to_nonce, judged_shim, handle, intended, after_intending, receipt_of, after_receipt, AreTraceRows, from_source, Input, FromTrace, Arrival, Site, Arrived, Entry, input_source, content, arrived, GoesOn, due, start_after, at_time, log_at, reaches, site_at, HasLog, IsRunTo, segment_due, range_of, after_upper, answer_to, walk_router, restart_config, sends, a_request, a_list, a_nonce, b_grant, b_notice, first_cap, first_request, first_grant, charged_to, same_rows, same_logs, same_log_a, same_log_b, same_log_router, same_until, again, renewal, renewed, renewed_cap, renewed_grant, renewed_list, before_again, before_renewal, before_list, nat_tests}
+use Rattle.tva_laws.proofs.Common.{◌≡◌, ℕ, suc, true, false, List, [], ◌∷◌, Some, refl, arith, same_Some, in_force, credit_of, PacketData, layout, two_bytes, six_bytes, eight_bytes, number_bytes, list_verdict, nonce_verdict, is_granted, under_grant, decision, link_to, answer_to_shown, answer_to_nonce, judged_shim, handle, intended, after_intending, receipt_of, after_receipt, AreTraceRows, Input, FromTrace, Arrival, Site, Arrived, Entry, content, arrived, GoesOn, start_after, at_time, log_at, site_at, HasLog, IsRunTo, segment_due, range_of, after_upper, answer_to, walk_router, restart_config, sends, a_request, a_list, a_nonce, b_grant, b_notice, first_cap, first_request, first_grant, charged_to, same_rows, same_logs, same_log_a, same_log_b, same_log_router, same_until, again, renewal, renewed, renewed_cap, renewed_grant, renewed_list, before_again, before_renewal, before_list, nat_tests}
 use Rattle.tva_laws.proofs.WorkedRuns.{none_from, has_by, by_number, triple, pair}
 use Rattle.tva_laws.proofs.Walkable.{none_begins}
 use Rattle.tva_laws.proofs.Networks.{sent}
@@ -50,21 +50,6 @@ b_inputs =
     ∷ Arrival (at_time 6002020800) 2 renewed
     ∷ []
 
-abbrev Gives : ℕ → List Input → ℕ → Type 0
-Gives node inputs s = from_source input_source s inputs ≡ due same_until (reaches (restart_config walk_router.master) same_rows same_logs node s)
-
-router_gives : (s : ℕ) → Gives 0 router_inputs s
-unfolding layout two_bytes six_bytes eight_bytes number_bytes
-router_gives = by_number 5 (Gives 0 router_inputs) (refl, (refl, (refl, (refl, (refl, tt))))) (λ n. none_from 4 (suc (suc (suc (suc (suc n))))) router_inputs (omega arith) refl)
-
-a_gives : (s : ℕ) → Gives 1 a_inputs s
-unfolding layout two_bytes six_bytes eight_bytes number_bytes
-a_gives = by_number 5 (Gives 1 a_inputs) (refl, (refl, (refl, (refl, (refl, tt))))) (λ n. none_from 4 (suc (suc (suc (suc (suc n))))) a_inputs (omega arith) refl)
-
-b_gives : (s : ℕ) → Gives 2 b_inputs s
-unfolding layout two_bytes six_bytes eight_bytes number_bytes
-b_gives = by_number 5 (Gives 2 b_inputs) (refl, (refl, (refl, (refl, (refl, tt))))) (λ n. none_from 4 (suc (suc (suc (suc (suc n))))) b_inputs (omega arith) refl)
-
 -- ## what each node makes of them
 
 abbrev Passes : List Entry → ℕ → PacketData → ℕ → PacketData → Type 0
@@ -102,18 +87,18 @@ Has site log = HasLog (restart_config walk_router.master) same_rows same_logs sa
 
 router_has : Has (router_site walk_router.master) same_log_router
 unfolding layout two_bytes six_bytes eight_bytes number_bytes
-router_has = has_by (restart_config walk_router.master) same_rows same_logs same_until (router_site walk_router.master) router_inputs same_log_router
-    (record { turns = refl; gives = router_gives; order = refl; early = refl; steps = router_steps; calm = (refl, (refl, tt)) })
+router_has = has_by _ _ _ _ _ router_inputs _
+    (record { turns = refl; gives = by_number 5 _ (refl, (refl, (refl, (refl, (refl, tt))))) (λ n. none_from 4 (suc (suc (suc (suc (suc n))))) router_inputs (omega arith) refl); order = refl; early = refl; steps = router_steps; calm = (refl, (refl, tt)) })
 
 a_has : Has a_site same_log_a
 unfolding layout two_bytes six_bytes eight_bytes number_bytes
-a_has = has_by (restart_config walk_router.master) same_rows same_logs same_until a_site a_inputs same_log_a
-    (record { turns = refl; gives = a_gives; order = refl; early = refl; steps = a_steps; calm = (refl, tt) })
+a_has = has_by _ _ _ _ _ a_inputs _
+    (record { turns = refl; gives = by_number 5 _ (refl, (refl, (refl, (refl, (refl, tt))))) (λ n. none_from 4 (suc (suc (suc (suc (suc n))))) a_inputs (omega arith) refl); order = refl; early = refl; steps = a_steps; calm = (refl, tt) })
 
 b_has : Has b_site same_log_b
 unfolding layout two_bytes six_bytes eight_bytes number_bytes
-b_has = has_by (restart_config walk_router.master) same_rows same_logs same_until b_site b_inputs same_log_b
-    (record { turns = refl; gives = b_gives; order = refl; early = refl; steps = b_steps; calm = (refl, tt) })
+b_has = has_by _ _ _ _ _ b_inputs _
+    (record { turns = refl; gives = by_number 5 _ (refl, (refl, (refl, (refl, (refl, tt))))) (λ n. none_from 4 (suc (suc (suc (suc (suc n))))) b_inputs (omega arith) refl); order = refl; early = refl; steps = b_steps; calm = (refl, tt) })
 
 has : (node : ℕ) (site : Site) → site_at (restart_config walk_router.master) node ≡ Some site → Has site (log_at same_logs node)
 has node site e = grind (arith, nat_tests, same_Some, router_site, router_has, a_site, a_has, b_site, b_has)

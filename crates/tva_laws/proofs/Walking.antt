@@ -1,5 +1,5 @@
 -- The logs of the worked walk are a run.
-use Rattle.tva_laws.proofs.Common.{◌≡◌, ℕ, suc, List, [], ◌∷◌, Some, refl, arith, same_Some, Regular, in_force, credit_of, AreSomeRights, layout, two_bytes, six_bytes, eight_bytes, number_bytes, check_of, Valid, list_verdict, nonce_verdict, is_granted, under_grant, decision, link_to, answer_to_shown, answer_to_nonce, judged_shim, handle, intended, after_intending, receipt_of, after_receipt, from_source, Input, FromTrace, Arrival, Site, site_of, Arrived, Entry, input_source, content, arrived, GoesOn, due, start_after, at_time, links_out, log_at, reaches, site_at, HasLog, IsRunTo, Way, walk_flow, walk_back, walk_rights, walk_router, walk_host_a, walk_host_b, walk_config, walk_first, walk_spoofed, walk_second, walk_third, walk_rows, walk_cap, walk_grant, walk_fate, walk_entry, walk_request, walk_reply, walk_list, walk_bare, walk_nonce, walk_renewal, walk_precap, walk_before_list, walk_before_renewal, walk_log_a, walk_log_b, walk_log_router, walk_logs, walk_until, walk_list_comes, walk_nonce_comes, walk_renewal_comes, segment_due, range_of, after_upper, answer_to, nat_tests}
+use Rattle.tva_laws.proofs.Common.{◌≡◌, ℕ, suc, List, [], ◌∷◌, Some, refl, arith, same_Some, Regular, in_force, credit_of, AreSomeRights, layout, two_bytes, six_bytes, eight_bytes, number_bytes, check_of, Valid, list_verdict, nonce_verdict, is_granted, under_grant, decision, link_to, answer_to_shown, answer_to_nonce, judged_shim, handle, intended, after_intending, receipt_of, after_receipt, Input, FromTrace, Arrival, Site, site_of, Arrived, Entry, content, arrived, GoesOn, start_after, at_time, links_out, log_at, site_at, HasLog, IsRunTo, Way, walk_flow, walk_back, walk_rights, walk_router, walk_host_a, walk_host_b, walk_config, walk_first, walk_spoofed, walk_second, walk_third, walk_rows, walk_cap, walk_grant, walk_fate, walk_entry, walk_request, walk_reply, walk_list, walk_bare, walk_nonce, walk_renewal, walk_precap, walk_before_list, walk_before_renewal, walk_log_a, walk_log_b, walk_log_router, walk_logs, walk_until, walk_list_comes, walk_nonce_comes, walk_renewal_comes, segment_due, range_of, after_upper, answer_to, nat_tests}
 use Rattle.tva_plan.specs.declared.config.NodePlan.TheVariants as plans
 use Rattle.tva_laws.proofs.EachMile.{valid}
 use Rattle.tva_laws.proofs.WorkedRuns.{none_from, has_by, by_number}
@@ -31,21 +31,6 @@ b_inputs =
     ∷ Arrival (at_time 10000200) 2 (walk_bare 1)
     ∷ Arrival (at_time 12020560) 2 (walk_nonce 1)
     ∷ []
-
-abbrev Gives : ℕ → List Input → ℕ → Type 0
-Gives node inputs s = from_source input_source s inputs ≡ due walk_until (reaches walk_config walk_rows walk_logs node s)
-
-router_gives : (s : ℕ) → Gives 0 router_inputs s
-unfolding layout two_bytes six_bytes eight_bytes number_bytes
-router_gives = by_number 5 (Gives 0 router_inputs) (refl, (refl, (refl, (refl, (refl, tt))))) (λ n. none_from 4 (suc (suc (suc (suc (suc n))))) router_inputs (omega arith) refl)
-
-a_gives : (s : ℕ) → Gives 1 a_inputs s
-unfolding layout two_bytes six_bytes eight_bytes number_bytes
-a_gives = by_number 5 (Gives 1 a_inputs) (refl, (refl, (refl, (refl, (refl, tt))))) (λ n. none_from 4 (suc (suc (suc (suc (suc n))))) a_inputs (omega arith) refl)
-
-b_gives : (s : ℕ) → Gives 2 b_inputs s
-unfolding layout two_bytes six_bytes eight_bytes number_bytes
-b_gives = by_number 5 (Gives 2 b_inputs) (refl, (refl, (refl, (refl, (refl, tt))))) (λ n. none_from 4 (suc (suc (suc (suc (suc n))))) b_inputs (omega arith) refl)
 
 -- ## what each node makes of them
 
@@ -109,18 +94,18 @@ Has site log = HasLog walk_config walk_rows walk_logs walk_until site log
 
 router_has : Has router_site walk_log_router
 unfolding layout two_bytes six_bytes eight_bytes number_bytes
-router_has = has_by walk_config walk_rows walk_logs walk_until router_site router_inputs walk_log_router
-    (record { turns = refl; gives = router_gives; order = refl; early = refl; steps = router_steps; calm = (refl, (refl, tt)) })
+router_has = has_by _ _ _ _ _ router_inputs _
+    (record { turns = refl; gives = by_number 5 _ (refl, (refl, (refl, (refl, (refl, tt))))) (λ n. none_from 4 (suc (suc (suc (suc (suc n))))) router_inputs (omega arith) refl); order = refl; early = refl; steps = router_steps; calm = (refl, (refl, tt)) })
 
 a_has : Has a_site walk_log_a
 unfolding layout two_bytes six_bytes eight_bytes number_bytes
-a_has = has_by walk_config walk_rows walk_logs walk_until a_site a_inputs walk_log_a
-    (record { turns = refl; gives = a_gives; order = refl; early = refl; steps = a_steps; calm = (refl, tt) })
+a_has = has_by _ _ _ _ _ a_inputs _
+    (record { turns = refl; gives = by_number 5 _ (refl, (refl, (refl, (refl, (refl, tt))))) (λ n. none_from 4 (suc (suc (suc (suc (suc n))))) a_inputs (omega arith) refl); order = refl; early = refl; steps = a_steps; calm = (refl, tt) })
 
 b_has : Has b_site walk_log_b
 unfolding layout two_bytes six_bytes eight_bytes number_bytes
-b_has = has_by walk_config walk_rows walk_logs walk_until b_site b_inputs walk_log_b
-    (record { turns = refl; gives = b_gives; order = refl; early = refl; steps = b_steps; calm = (refl, tt) })
+b_has = has_by _ _ _ _ _ b_inputs _
+    (record { turns = refl; gives = by_number 5 _ (refl, (refl, (refl, (refl, (refl, tt))))) (λ n. none_from 4 (suc (suc (suc (suc (suc n))))) b_inputs (omega arith) refl); order = refl; early = refl; steps = b_steps; calm = (refl, tt) })
 
 has : (node : ℕ) (site : Site) → site_at walk_config node ≡ Some site → Has site (log_at walk_logs node)
 has node site e = grind (arith, nat_tests, same_Some, router_has, a_has, b_has)

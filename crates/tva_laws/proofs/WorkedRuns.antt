@@ -1,5 +1,6 @@
 -- How worked logs are shown to be a run: their order, that all is early and that no start is left out, each by a test.
-use Rattle.tva_laws.proofs.Common.{◌≡◌, ◌≤◌, ◌<◌, ◌+◌, ◌⊎◌, inl, inr, ℕ, zero, suc, Bool, true, false, ◌&&◌, ◌||◌, cond, eqb, ltb, leb, List, [], ◌∷◌, ◌++◌, Option, Some, None, refl, ap, sym, subst, ◌∙◌, arith, append-nil, append_assoc, nat_lt, option_and_then, option_map, AllByRecursion, find, cases_lt, lt-ltb, ltb-true, leb-true, eqb-true, nat_tests, LinkLimits, HostPlan, LinkPlan, PacketData, and_true, Config, Row, MayPrecede, IsInOrder, from_source, cut, filter-true, filter-none, cut-late, each_later, Input, Site, Entry, input_time, input_source, entry_time, entry_rank, port_logs, GoesOn, due, start_after, Logs, reaches, HasLog, Deal, Prepared, Coming, ComesInTime, RouterPlan, ShowsMinted, in_force, ComesUnder}
+use Rattle.tva_laws.proofs.Common.{◌≡◌, ◌≤◌, ◌<◌, ◌+◌, ◌⊎◌, inl, inr, ℕ, zero, suc, Bool, true, false, ◌&&◌, ◌||◌, cond, eqb, ltb, leb, List, [], ◌∷◌, ◌++◌, Option, Some, None, refl, ap, sym, subst, ◌∙◌, arith, append-nil, append_assoc, nat_lt, option_and_then, option_map, AllByRecursion, find, cases_lt, lt-ltb, ltb-true, leb-true, eqb-true, nat_tests, LinkLimits, HostPlan, LinkPlan, PacketData, and_true, Config, Row, MayPrecede, IsInOrder, from_source, cut, filter-true, filter-none, cut-late, each_later, Input, Site, Entry, input_time, input_source, entry_time, entry_rank, port_logs, GoesOn, due, start_after, Logs, reaches, HasLog, Deal, Prepared, Coming, ComesInTime, RouterPlan, ShowsMinted, in_force, ComesUnder, slice_get, Host, Router, log_at, Took, Arrival, at_time, Arrived, Fate, is_marked, shows, IsSteadyPath, deals, comings, coming, charges_at, charges, IsSteadyIn}
+use Rattle.tva_laws.specs.Steady.{Walk}
 use Rattle.tva_port.specs.declared.requests.RequestQueues.{RequestQueues}
 use Rattle.tva_port.specs.declared.requests.RequestQueues.TheVariants.{OneLevel, TwoLevels}
 use Rattle.tva_port.specs.Log as port
@@ -83,6 +84,17 @@ came_so before sent packet after place same from until =
 abbrev pub under_so : {host : HostPlan} {router : RouterPlan} {delay : ℕ} {under : List Deal} {came : ℕ} {x : Coming} → ComesInTime host delay under x
     → came ≤ x.time → ShowsMinted (in_force router x.time) x.packet x.packet.carried came → ComesUnder host router delay under came x
 under_so in_time behind minted = record { in_time = in_time; behind = behind; minted = minted }
+
+-- a path is steady up to a packet, by what stands of it in the logs
+abbrev pub steady_so : {logs : Logs} {walk : Walk} {before : List Entry} {time link : ℕ} {packet : PacketData} {fate : Fate} {onward : PacketData}
+    → (rest : List Entry) → slice_get walk.config.nodes walk.sender ≡ Some (Host walk.host) → slice_get walk.config.nodes walk.node ≡ Some (Router walk.router)
+    → log_at logs walk.node ≡ before ++ Took (Arrival (at_time time) link packet) (Arrived (Some link) packet fate onward) ∷ rest
+    → is_marked packet.carried ≡ false → packet.hops < 32 → shows packet.carried ≡ true
+    → IsSteadyPath walk.host walk.router walk.delay (deals packet.flow.dst (log_at logs walk.sender)) (comings packet.flow before)
+    (charges_at walk.router time (charges before)) (coming (Arrival (at_time time) link packet) packet fate)
+    → IsSteadyIn logs walk before time link packet fate onward
+steady_so rest sender node here unmarked hops shown steady =
+    record { sender = sender; node = node; rest = rest; here = here; unmarked = unmarked; hops = hops; shown = shown; steady = steady }
 
 -- ## times
 

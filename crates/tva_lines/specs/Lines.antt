@@ -1,20 +1,13 @@
 -- Product: the lines of a report: each a text of words, joined by blanks, that a line feed ends.
-use Rattle.std.specs.Prelude.{◌<◌, ◌^◌, ℕ, List, [], ◌∷◌, ◌++◌, length, All, Option, Some, None, codes, decimal}
-use Rattle.std.specs.Prelude.{slice_get}
-use Rattle.std.specs.Option.{option_map_or}
-use Rattle.std.specs.List.{join_with_byte}
-use Rattle.tva_base.specs.declared.packet.PacketId.{PacketId}
+use Rattle.std.specs.Prelude.{◌<◌, ◌^◌, ℕ, List, [], ◌∷◌, ◌++◌, length, All, Option, Some, None, codes, decimal, slice_get}
+use Rattle.std.specs.{Option.option_map_or, List.join_with_byte}
+use Rattle.tva_base.specs.declared.packet.{PacketId.PacketId, Outcome.TheVariants.Queued, Outcome.TheVariants.Dropped}
+use Rattle.tva_base.specs.declared.event.{Event.Event, ReplyLine.ReplyLine, DataLine.DataLine, Totals.Totals}
+use Rattle.tva_base.specs.declared.event.Happened.TheVariants.{Arrived, Sent, Received, Started, Ticked}
 use Rattle.tva_base.specs.declared.packet.Cause as cause
 use Rattle.tva_base.specs.declared.packet.Outcome as outcome
-use Rattle.tva_base.specs.declared.packet.Outcome.TheVariants.{Queued, Dropped}
-use Rattle.tva_base.specs.declared.event.Event.{Event}
 use Rattle.tva_base.specs.declared.event.Happened as happened
-use Rattle.tva_base.specs.declared.event.Happened.TheVariants.{Arrived, Sent, Received, Started, Ticked}
-use Rattle.tva_base.specs.declared.event.ReplyLine.{ReplyLine}
-use Rattle.tva_base.specs.declared.event.DataLine.{DataLine}
-use Rattle.tva_base.specs.declared.event.Totals.{Totals}
-use Rattle.tva_plan.specs.declared.config.Config.{Config}
-use Rattle.tva_plan.specs.Names.{name_at}
+use Rattle.tva_plan.specs.{declared.config.Config.Config, Names.name_at}
 use Rattle.tva_lines.specs.Words.{class_word, cause_word, drop_word, shape_word, what_word, back_word}
 
 -- the name of the node with that number

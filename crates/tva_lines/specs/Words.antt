@@ -2,11 +2,10 @@
 use Rattle.std.specs.Prelude.{ℕ, List, codes}
 use Rattle.tva_base.specs.declared.packet.Class as class
 use Rattle.tva_base.specs.declared.packet.Class.TheVariants.{Request, Regular, Legacy}
-use Rattle.tva_base.specs.declared.packet.Cause as cause
-use Rattle.tva_base.specs.declared.packet.Cause.TheVariants.{NoCapability, Expired, BadHash, Superseded, OverN}
-use Rattle.tva_base.specs.declared.packet.Cause.TheVariants.{CacheFull, UnknownNonce, PathFull, Malformed}
-use Rattle.tva_base.specs.declared.packet.DropCause as drop_cause
+use Rattle.tva_base.specs.declared.packet.Cause.TheVariants.{NoCapability, Expired, BadHash, Superseded, OverN, CacheFull, UnknownNonce, PathFull, Malformed}
 use Rattle.tva_base.specs.declared.packet.DropCause.TheVariants.{HopLimit, NoRoute, NoQueue, QueueFull}
+use Rattle.tva_base.specs.declared.packet.Cause as cause
+use Rattle.tva_base.specs.declared.packet.DropCause as drop_cause
 use Rattle.tva_base.specs.declared.event.ShapeKind as shape
 use Rattle.tva_base.specs.declared.event.ShapeKind.TheVariants as shapes
 use Rattle.tva_base.specs.declared.event.WhatKind as what

@@ -1,10 +1,8 @@
 // What holds of every line of a report.
 ghost use Rattle.std.specs.List.{All};
-ghost use Rattle.tva_base.specs.declared.event.Event.{Event};
-ghost use Rattle.tva_base.specs.declared.event.Totals.{Totals};
+ghost use Rattle.tva_base.specs.declared.event.{Event.Event, Totals.Totals};
 ghost use Rattle.tva_base.specs.Printable.{IsLine, IsPrintable};
-ghost use Rattle.tva_plan.specs.declared.config.Config.{Config};
-ghost use Rattle.tva_plan.specs.Valid.{IsConfig};
+ghost use Rattle.tva_plan.specs.{declared.config.Config.Config, Valid.IsConfig};
 ghost use Rattle.tva_lines.specs.Lines.{FitsEvent, FitsTotals, text_of_event, text_of_totals};
 
 /// Under a valid configuration the text of an event has no byte but from the blank to `~`, and it has

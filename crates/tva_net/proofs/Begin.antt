@@ -1,6 +1,5 @@
 -- What a network stands for before its first window.
-use Rattle.tva_net.proofs.Common.{◌≡◌, ℕ, zero, suc, ◌+◌, ◌<◌, List, [], ◌∷◌, length, get_or, map, filter, Bool, true, false, cond, Option, Some, None, All, refl, sym, subst, ◌∙◌, ap, arith, ◌==◌, slice_get, option_map_or, AllByRecursion, eq-eqb, ne_eqb, length-map, All-head, All-tail, Totals, LinkPlan, Config, IsConfig, Row, AreTraceRows, IsRow, from_source, cut-early, cut-zero, each-filter, each-weaker, filter-all, filter-none, Input, FromTrace, Site, Entry, input_time, input_source, entry_time, due, events, NodeState, StandsFor, Logs, log_at, arrivals, arrivals_at, reaches, rows_at, site_at, AreEvents, totals_of, HasLog, IsRunTo, window_length, AreFirstNodes, IsNodeAt, WorksFor, HasGiven}
-use Rattle.tva_net.proofs.PostedLists.{each_map}
+use Rattle.tva_net.proofs.Common.{◌≡◌, ℕ, zero, suc, ◌+◌, ◌<◌, List, [], ◌∷◌, length, get_or, map, filter, Bool, true, false, cond, Option, Some, None, All, refl, sym, subst, ◌∙◌, ap, arith, ◌==◌, slice_get, option_map_or, AllByRecursion, eq-eqb, ne_eqb, length-map, All-head, All-tail, Totals, LinkPlan, Config, IsConfig, Row, AreTraceRows, IsRow, from_source, cut-early, cut-zero, each-filter, each-weaker, filter-all, filter-none, Input, FromTrace, Site, Entry, input_time, input_source, entry_time, due, events, NodeState, StandsFor, Logs, log_at, arrivals, arrivals_at, reaches, rows_at, site_at, AreEvents, totals_of, HasLog, IsRunTo, window_length, AreFirstNodes, IsNodeAt, WorksFor, HasGiven, each-map}
 use Rattle.tva_net.proofs.Standing.{tell_of}
 
 -- ## logs with nothing in them
@@ -44,7 +43,7 @@ module _ (config : Config) (rows : List Row) (nodes : List NodeState) (valid : I
   rows_due n =
       let rs = filter (λ (row : Row). row.node == n) rows in
       cut-early input_time input_source (config.horizon.0 + 1) (rows_at rows n)
-      (each_map FromTrace (λ i. input_time i < config.horizon.0 + 1) rs
+      (each-map FromTrace (λ i. input_time i < config.horizon.0 + 1) rs
       (each-filter (λ (r : Row). r.time.0 < config.horizon.0 + 1) (λ row. row.node == n) rows (rows_early config rows trace.each)))
 
   no_arrivals : (n k : ℕ) (o : Option LinkPlan) → option_map_or (arrivals_at logs n k) o [] ≡ []

@@ -1,7 +1,6 @@
 -- What the steps of a window ask and leave.
-use Rattle.tva_net.proofs.Common.{Vec, Global, Result, Ok, Err, IfOk, Option, ◌≡◌, ℕ, ◌+◌, ◌<◌, ◌≤◌, min, List, [], ◌∷◌, ◌++◌, length, get_or, Some, None, All, refl, sym, subst, ◌∙◌, ap, arith, flat_map, AllByRecursion, AllZip, option_map, append-nil, append_assoc, recursion_from_All, Event, Time, Config, Row, Keeps, NodeState, Stands, unsent, begins_more, begins_same, log_at, Window, given, IsPostable, KeepsWork, HasNoNews, IsFirstTime, WorksFor, GrowsFrom, IsWholeRun, WorkState, AreQuietElsewhere, IsElsewhere, AddsNothing, AddsWindow, AddsWindows, AreWorked, CanGoTo, CanWork, EndsWindow, IsThrough, OfEachRun, WorksOn, WorksUpTo, if_some}
-use Rattle.tva_net.proofs.PostedLists.{zip_length, zip_same, zip_weaker}
-use Rattle.tva_net.proofs.Lists.{zip_both}
+use Rattle.tva_net.proofs.Common.{Vec, Global, Result, Ok, Err, IfOk, Option, ◌≡◌, ℕ, ◌+◌, ◌<◌, ◌≤◌, min, List, [], ◌∷◌, ◌++◌, length, get_or, Some, None, All, refl, sym, subst, ◌∙◌, ap, arith, flat_map, AllByRecursion, AllZip, option_map, append-nil, append_assoc, recursion_from_All, Event, Time, Config, Row, Keeps, NodeState, Stands, unsent, begins_more, begins_same, log_at, Window, given, IsPostable, KeepsWork, HasNoNews, IsFirstTime, WorksFor, GrowsFrom, IsWholeRun, WorkState, AreQuietElsewhere, IsElsewhere, AddsNothing, AddsWindow, AddsWindows, AreWorked, CanGoTo, CanWork, EndsWindow, IsThrough, OfEachRun, WorksOn, WorksUpTo, if_some, AllZip-same, AllZip-long}
+use Rattle.tva_net.proofs.Lists.{zip_more, zip_weaker}
 use Rattle.tva_net.proofs.Standing.{start_few, start_later, start_within, whole_run}
 use Rattle.tva_net.proofs.Windows as spans
 
@@ -22,10 +21,10 @@ posted_grows : (old new : NodeState) → KeepsWork old new → GrowsFrom old new
 posted_grows old new k = record { site = k.site; events = ([], k.events ∙ sym (append-nil old.events)); sendings = ([], k.sendings ∙ sym (append-nil old.sendings)); keeps = k.keeps }
 
 pub told_same : (nodes : List NodeState) → AllZip GrowsFrom nodes nodes
-told_same nodes = zip_same GrowsFrom grows_same nodes
+told_same nodes = AllZip-same GrowsFrom grows_same nodes
 
 pub told_more : (a b c : List NodeState) → AllZip GrowsFrom a b → AllZip GrowsFrom b c → AllZip GrowsFrom a c
-told_more a b c h k = zip_both GrowsFrom GrowsFrom GrowsFrom grows_more a b c h k
+told_more a b c h k = zip_more GrowsFrom grows_more a b c h k
 
 pub told_kept : (olds news : List NodeState) → AllZip Keeps olds news → AllZip GrowsFrom olds news
 told_kept olds news h = zip_weaker Keeps GrowsFrom (λ x y k. record { site = k.site; events = k.events; sendings = k.sendings; keeps = k.keeps }) olds news h
@@ -64,12 +63,12 @@ module _ (w : WorkState) (until : ℕ) (e : EndsWindow w until) where
     postable = spans.postable e.config e.rows e.windows e.told w e.works e.start e.first until e.ends mids through kept
 
     pub mids_few : length mids ≤ 1024
-    mids_few = omega (arith, few, zip_length Keeps w.nodes mids kept)
+    mids_few = omega (arith, few, AllZip-long Keeps w.nodes mids kept)
 
     -- nodes elsewhere have no news
     pub quiet_elsewhere : (places : List ℕ) → ((place : ℕ) (d : NodeState) → place < length mids → IsElsewhere places place → get_or mids place d ≡ get_or w.nodes place d) → AreQuietElsewhere mids places
     quiet_elsewhere places others = λ n d l out.
-        subst HasNoNews (sym (others n d l out)) (e.works.kept.news n d (omega (arith, l, zip_length Keeps w.nodes mids kept)))
+        subst HasNoNews (sym (others n d l out)) (e.works.kept.news n d (omega (arith, l, AllZip-long Keeps w.nodes mids kept)))
 
 -- ## the next window
 
@@ -112,30 +111,6 @@ module _ (config : Config) (rows : List Row) (windows : List Window) (told : Lis
     given = ap (given told) (append-nil windows);
   }
 
-  nothing_then : (mid new : WorkState) → AddsNothing config rows windows told mid → OfEachRun (λ config rows windows told. AddsWindow config rows windows told [] new) mid → AddsNothing config rows windows told new
-  nothing_then mid new a on =
-      let b = on config rows (windows ++ a.more) told a.works in
-      let same : (windows ++ a.more) ++ b.window ∷ [] ≡ windows ++ (a.more ++ b.window ∷ []) = append_assoc windows a.more (b.window ∷ []) in
-      let quiet : told ++ [] ≡ told = append-nil told in
-      record {
-        more = a.more ++ b.window ∷ [];
-        works = subst (λ (ws : List Window). WorksFor config rows ws told new) same (subst (λ (es : List Event). WorksFor config rows ((windows ++ a.more) ++ b.window ∷ []) es new) quiet b.works);
-        given =
-            ap (given told) (sym same)
-            ∙ (ap (λ (es : List Event). given es ((windows ++ a.more) ++ b.window ∷ [])) (sym quiet)
-            ∙ (b.given ∙ (append-nil (given told (windows ++ a.more)) ∙ a.given)));
-      }
-
-  some_then : (mid new : WorkState) (list : List Event) → AddsNothing config rows windows told mid → OfEachRun (λ config rows windows told. AddsWindow config rows windows told list new) mid → AddsWindows config rows windows told list new
-  some_then mid new list a on =
-      let b = on config rows (windows ++ a.more) told a.works in
-      let same : (windows ++ a.more) ++ b.window ∷ [] ≡ windows ++ (a.more ++ b.window ∷ []) = append_assoc windows a.more (b.window ∷ []) in
-      record {
-        more = a.more ++ b.window ∷ [];
-        works = subst (λ (ws : List Window). WorksFor config rows ws (told ++ list) new) same b.works;
-        given = ap (given (told ++ list)) (sym same) ∙ (b.given ∙ ap (λ (xss : List (List Event)). xss ++ if_some list) a.given);
-      }
-
   -- further windows behind such in which nothing happens
   windows_then : (mid new : WorkState) (list : List Event) (a : AddsNothing config rows windows told mid) → AddsWindows config rows (windows ++ a.more) told list new → AddsWindows config rows windows told list new
   windows_then mid new list a b =
@@ -144,6 +119,21 @@ module _ (config : Config) (rows : List Row) (windows : List Window) (told : Lis
         more = a.more ++ b.more;
         works = subst (λ (ws : List Window). WorksFor config rows ws (told ++ list) new) same b.works;
         given = ap (given (told ++ list)) (sym same) ∙ (b.given ∙ ap (λ (xss : List (List Event)). xss ++ if_some list) a.given);
+      }
+
+  some_then : (mid new : WorkState) (list : List Event) → AddsNothing config rows windows told mid → OfEachRun (λ config rows windows told. AddsWindow config rows windows told list new) mid → AddsWindows config rows windows told list new
+  some_then mid new list a on =
+      let b = on config rows (windows ++ a.more) told a.works in
+      windows_then mid new list a (record { more = b.window ∷ []; works = b.works; given = b.given })
+
+  nothing_then : (mid new : WorkState) → AddsNothing config rows windows told mid → OfEachRun (λ config rows windows told. AddsWindow config rows windows told [] new) mid → AddsNothing config rows windows told new
+  nothing_then mid new a on =
+      let m = some_then mid new [] a on in
+      let quiet : told ++ [] ≡ told = append-nil told in
+      record {
+        more = m.more;
+        works = subst (λ (es : List Event). WorksFor config rows (windows ++ m.more) es new) quiet m.works;
+        given = ap (λ (es : List Event). given es (windows ++ m.more)) (sym quiet) ∙ (m.given ∙ append-nil (given told windows));
       }
 
   end_then : (mid new : WorkState) (a : AddsNothing config rows windows told mid) (b : AddsNothing config rows (windows ++ a.more) told new) → IsWholeRun config rows ((windows ++ a.more) ++ b.more) told new.nodes

@@ -106,11 +106,6 @@ row_first row rs n = map_row row (row.node == n) (filter (λ r. r.node == n) rs)
 pub kept_more : (keeps : Memory) (nodes : List NodeState) (v : NodeState) → v.keeps ≡ keeps → All (λ u. u.keeps ≡ keeps) nodes → All (λ u. u.keeps ≡ keeps) (nodes ++ v ∷ [])
 kept_more keeps nodes v here each = All-append (λ (u : NodeState). u.keeps ≡ keeps) nodes (v ∷ []) each (All-from_recursion (λ (u : NodeState). u.keeps ≡ keeps) (v ∷ []) (here, tt))
 
-pub kept_with_rows : (keeps : Memory) (mail : ℕ → List Input) (nodes filed : List NodeState) → GotMails mail nodes filed → All (λ u. u.keeps ≡ keeps) nodes → All (λ u. u.keeps ≡ keeps) filed
-kept_with_rows keeps mail nodes filed got each n d l =
-    let there : n < length nodes = omega (arith, got.count) in
-    (got.each n d there).keeps.keeps ∙ each n d there
-
 -- ## how many rows
 
 pub some_row : Row

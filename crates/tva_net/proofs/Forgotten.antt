@@ -1,10 +1,11 @@
 -- Nodes that hand on what they have, and forget what memory need not hold: they stand for the same, and nothing that is
 -- noted of them changes.
-use Rattle.tva_net.proofs.Common.{◌≡◌, ℕ, ◌<◌, List, [], ◌∷◌, length, get_or, set, refl, sym, subst, ◌∙◌, ap, arith, inl, inr, AllByRecursion, AllZip, cases_eq, append-nil, get_or_default, get_or-set_other, get_or-set_same, length-set, AllZip-get_or, Input, Entry, Memory, Gone, NodeState, Stands, StandsFor, gone_after, gone_by, GotMail, GotMails, HandedOn, KeepsWork, HasNoNews, AreQuietElsewhere, Rises, AreNoted, IsNext, IsNoted}
+use Rattle.tva_net.proofs.Common.{◌≡◌, ℕ, ◌<◌, List, [], ◌∷◌, length, get_or, set, refl, sym, subst, ◌∙◌, ap, arith, inl, inr, AllByRecursion, AllZip, cases_eq, append-nil, get_or_default, get_or-set_other, get_or-set_same, length-set, AllZip-get_or, Input, Entry, Memory, Gone, NodeState, Stands, StandsFor, gone_after, gone_by, GotMail, GotMails, HandedOn, KeepsWork, HasNoNews, AreQuietElsewhere, Rises, AreNoted, IsNext, IsNoted, AllZip-long}
+use Rattle.tva_net.proofs.Lists.{zip_more, zip_weaker}
 use Rattle.tva_waiting.specs.declared.memory.Memory.TheVariants.{All as KeepsAll, Nothing}
 use Rattle.tva_node.proofs.Forgets.{stands_without}
-use Rattle.tva_net.proofs.PostedLists.{zip_length, zip_weaker}
-use Rattle.tva_net.proofs.Mails.{got_more, zip_more, zip_set}
+use Rattle.tva_net.proofs.Mails.{got_more, zip_set}
+use Rattle.tva_run.proofs.Putting.{each-both}
 
 -- for a log a node stands whatever memory holds of it
 stands_with : (v : NodeState) (gone : Gone) (log : List Entry) → StandsFor (record v { gone = gone }) log → StandsFor v log
@@ -39,7 +40,7 @@ handed_keeps xs ys h = zip_weaker HandedOn KeepsWork (λ v w f. (handed_mail v w
 
 pub got_handed : (xs ys : List NodeState) → AllZip HandedOn xs ys → GotMails (λ n. []) xs ys
 got_handed xs ys h = record {
-  count = zip_length HandedOn xs ys h;
+  count = AllZip-long HandedOn xs ys h;
   each = λ n d l. handed_mail (get_or xs n d) (get_or ys n d) (AllZip-get_or HandedOn xs ys n d d h l);
 }
 
@@ -57,9 +58,9 @@ handed_noted number v w f (next, same, is) = (
 
 pub noted_handed : (times : List ℕ) (xs ys : List NodeState) → AllZip HandedOn xs ys → AreNoted times xs → AreNoted times ys
 noted_handed times xs ys f h = record {
-  count = h.count ∙ sym (zip_length HandedOn xs ys f);
+  count = h.count ∙ sym (AllZip-long HandedOn xs ys f);
   each = λ n d l.
-      let k : n < length xs = omega (arith, l, zip_length HandedOn xs ys f) in
+      let k : n < length xs = omega (arith, l, AllZip-long HandedOn xs ys f) in
       handed_noted (get_or times n 0) (get_or xs n d) (get_or ys n d) (AllZip-get_or HandedOn xs ys n d d f k) (h.each n d k);
 }
 
@@ -99,15 +100,11 @@ handing_first places nodes r q = record { rises = r; same = each-any places; qui
     each-any [] = tt
     each-any (x ∷ xs) = ((λ d. refl), each-any xs)
 
-both : {X : Type 0} (P Q R : X → Type 0) → ((x : X) → P x → Q x → R x) → (xs : List X) → AllByRecursion P xs → AllByRecursion Q xs → AllByRecursion R xs
-both P Q R w [] p q = tt
-both P Q R w (x ∷ xs) p q = (w x p.0 q.0, both P Q R w xs p.1 q.1)
-
 -- one more hands over
 pub handing_more : (place : ℕ) (left : List ℕ) (olds news : List NodeState) (w : NodeState) → place < length news → HasNoNews w → AreHanding (place ∷ left) olds news → AreHanding left olds (set news place w)
 handing_more place left olds news w l told h = record {
   rises = h.rises.1;
-  same = both (λ n. place < n) (λ n. (d : NodeState) → get_or news n d ≡ get_or olds n d) (λ n. (d : NodeState) → get_or (set news place w) n d ≡ get_or olds n d)
+  same = each-both (λ n. place < n) (λ n. (d : NodeState) → get_or news n d ≡ get_or olds n d) (λ n. (d : NodeState) → get_or (set news place w) n d ≡ get_or olds n d)
       (λ n late same d. get_or-set_other news place n w d (λ e. omega (arith, e, late)) ∙ same d) left h.rises.0 h.same.1;
   quiet = λ n d m out.
       let k : n < length news = omega (arith, m, length-set news place w) in

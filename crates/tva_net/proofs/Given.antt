@@ -1,16 +1,8 @@
 -- What is given of the windows so far, with one more.
-use Rattle.tva_net.proofs.Common.{◌≡◌, ℕ, ◌<◌, ◌≤◌, List, [], ◌∷◌, ◌++◌, length, map, filter, Bool, true, false, refl, ◌∙◌, ap, ap₂, arith, nat_lt, nat_le, ◌&&◌, AllByRecursion, lt-ltb, nat_tests, append-nil, map-append, filter-append, Event, filter-true, filter-all, filter-none, each-weaker, each-both, event_time, Window, events_in, given, if_some}
+use Rattle.tva_net.proofs.Common.{◌≡◌, ℕ, ◌<◌, ◌≤◌, List, [], ◌∷◌, ◌++◌, length, map, filter, Bool, true, false, refl, ◌∙◌, ap, ap₂, arith, nat_lt, nat_le, ◌&&◌, AllByRecursion, lt-ltb, append-nil, map-append, filter-append, Event, filter-true, filter-all, filter-none, each-weaker, each-both, event_time, Window, events_in, given, if_some}
 use Rattle.std.specs.List.{flat_map}
 use Rattle.std.proofs.lemmas.Grind.{flat_map-append}
-
-is_in : (a b t : ℕ) → a ≤ t → t < b → (nat_le a t && nat_lt t b) ≡ true
-is_in a b t h k = grind (arith, nat_tests)
-
-is_behind : (a b t : ℕ) → b ≤ t → (nat_le a t && nat_lt t b) ≡ false
-is_behind a b t h = grind (arith, nat_tests)
-
-is_ahead : (a b t : ℕ) → t < a → (nat_le a t && nat_lt t b) ≡ false
-is_ahead a b t h = grind (arith, nat_tests)
+use Rattle.tva_base.proofs.Each.{is_in, is_behind, is_ahead}
 
 -- those in which something happens
 abbrev filled : List (List Event) → List (List Event)

@@ -1,6 +1,6 @@
 -- Nodes that hand out events: nothing else of them changes.
-use Rattle.tva_net.proofs.Common.{◌≡◌, ℕ, ◌+◌, ◌<◌, ◌≤◌, List, [], ◌∷◌, ◌++◌, Vec, Global, length, get_or, set, drop, Option, Some, None, IfSome, Result, Ok, Err, IfOk, refl, sym, subst, ◌∙◌, ap, ap₂, arith, flat_map, AllZip, append-nil, drop_all, get_or_default, set-get_or, AllZip-get_or, Event, NeverFalls, from_source, Gone, NodeState, all_given, news, unsent, event_time, IsByTime, IsOnly, picked, HandedOn, HandedOut, of_place, ArePlaces, AreQuietElsewhere}
-use Rattle.tva_net.proofs.PostedLists.{zip_length, zip_same, zip_weaker}
+use Rattle.tva_net.proofs.Common.{◌≡◌, ℕ, ◌+◌, ◌<◌, ◌≤◌, List, [], ◌∷◌, ◌++◌, Vec, Global, length, get_or, set, drop, Option, Some, None, IfSome, Result, Ok, Err, IfOk, refl, sym, subst, ◌∙◌, ap, ap₂, arith, flat_map, AllZip, append-nil, drop_all, get_or_default, set-get_or, AllZip-get_or, Event, NeverFalls, from_source, Gone, NodeState, all_given, news, unsent, event_time, IsByTime, IsOnly, picked, HandedOn, HandedOut, of_place, ArePlaces, AreQuietElsewhere, AllZip-same, AllZip-long, nil_from_length}
+use Rattle.tva_net.proofs.Lists.{zip_weaker}
 use Rattle.tva_net.proofs.Mails.{zip_set}
 use Rattle.tva_net.proofs.NodePlaces.{of_place_is, picked_last, picked_more, since_picked}
 
@@ -26,7 +26,7 @@ taken v w (Some list) some none = subst (HandedOut v) (sym some) (record { same 
 -- ## nodes
 
 pub handed_none : (xs : List NodeState) → AllZip HandedOut xs xs
-handed_none xs = zip_same HandedOut handed_nothing xs
+handed_none xs = AllZip-same HandedOut handed_nothing xs
 
 pub handed_one : (nodes : List NodeState) (place : ℕ) (u w : NodeState) → place < length nodes → HandedOut (get_or nodes place u) w → AllZip HandedOut nodes (set nodes place w)
 handed_one nodes place u w l h =
@@ -43,7 +43,7 @@ handed_unsent (v ∷ vs) (w ∷ ws) h = ap₂ (λ xs ys. xs ++ ys) (unsent_still
 
 pub handed_elsewhere : (xs ys : List NodeState) (places : List ℕ) → AllZip HandedOut xs ys → AreQuietElsewhere xs places → AreQuietElsewhere ys places
 handed_elsewhere xs ys places h k = λ place d l out.
-    let there : place < length xs = omega (arith, l, zip_length HandedOut xs ys h) in
+    let there : place < length xs = omega (arith, l, AllZip-long HandedOut xs ys h) in
     (AllZip-get_or HandedOut xs ys place d d h there).news (k place d there out)
 
 -- one node is as it was
@@ -74,12 +74,8 @@ IsOnlySoFar nodes places i (Some p) = (p < length nodes) × (of_place news nodes
 module _ (nodes : List NodeState) (places : List ℕ) (i : ℕ) (l : i < length places) (v : NodeState) (is : v ≡ get_or nodes (get_or places i 0) v) (m : get_or places i 0 < length nodes) where
   none_here : length (news v) ≤ 0 → picked news nodes (drop i places) ≡ picked news nodes (drop (i + 1) places)
   none_here few =
-      let none : of_place news nodes (get_or places i 0) ≡ [] = of_place_is news nodes (get_or places i 0) v m ∙ (ap (λ (u : NodeState). news u) (sym is) ∙ empty_if (news v) few) in
+      let none : of_place news nodes (get_or places i 0) ≡ [] = of_place_is news nodes (get_or places i 0) v m ∙ (ap (λ (u : NodeState). news u) (sym is) ∙ nil_from_length (news v) (omega (arith, few))) in
       picked_more news nodes places i 0 l ∙ ap (λ (xs : List Event). xs ++ picked news nodes (drop (i + 1) places)) none
-    where
-      empty_if : (xs : List Event) → length xs ≤ 0 → xs ≡ []
-      empty_if [] k = refl
-      empty_if (x ∷ xs) k = absurd (omega (arith, k))
 
   pub quiet_there : (only : Option ℕ) → length (news v) ≤ 0 → IsOnlySoFar nodes places i only → IsOnlySoFar nodes places (i + 1) only
   quiet_there None few h = sym (none_here few) ∙ h

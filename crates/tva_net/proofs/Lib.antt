@@ -15,7 +15,6 @@ pub mod Worked
 pub mod Firsts
 pub mod Adding
 pub mod Counts
-pub mod PostedLists
 pub mod NodePlaces
 pub mod Mails
 pub mod Orders

@@ -1,29 +1,20 @@
 -- Lists, by what stands at each place, and what a list in order has from a time on.
-use Rattle.tva_net.proofs.Common.{◌≡◌, ℕ, zero, suc, ◌+◌, ◌<◌, ◌≤◌, List, [], ◌∷◌, ◌++◌, length, get_or, drop, map, filter, Bool, Some, refl, sym, ◌∙◌, ap, arith, inl, inr, ◌==◌, nat_lt, slice_range, Contains, AllByRecursion, AllZip, lt-ltb, eq-eqb, cases_Bool, cases_lt, append_cancel_right, drop_more, IsInOrder, NeverFalls, cut, from_source, filter-true, filter-false, cut-late, each-filter, each_later, contains_cases, contains_first, contains_more}
-use Rattle.std.proofs.lemmas.List.Folds.{drop_split}
-
-pub some_same : {X : Type 0} (x y : X) → Some x ≡ Some y → x ≡ y
-some_same x y e = cc
-
-pub nothing_in : {X : Type 0} (xs : List X) → length xs ≡ 0 → xs ≡ []
-nothing_in [] e = refl
-nothing_in (x ∷ xs) e = absurd (omega (arith, e))
-
--- one element alone
-pub range_one : {X : Type 0} (xs : List X) (i : ℕ) (x : X) → i < length xs → x ≡ get_or xs i x → slice_range xs i (i + 1) ≡ x ∷ []
-range_one xs i x l is =
-    append_cancel_right (slice_range xs i (i + 1)) (x ∷ []) (drop (i + 1) xs)
-    (sym (drop_split xs i (i + 1) (omega arith)) ∙ (drop_more xs i x l ∙ ap (λ y. y ∷ drop (i + 1) xs) (sym is)))
+use Rattle.tva_net.proofs.Common.{◌≡◌, ℕ, zero, suc, ◌+◌, ◌≤◌, List, [], ◌∷◌, ◌++◌, drop, map, filter, Bool, refl, sym, ◌∙◌, ap, arith, inl, inr, ◌==◌, nat_lt, Contains, AllByRecursion, AllZip, lt-ltb, eq-eqb, cases_Bool, cases_lt, IsInOrder, NeverFalls, cut, from_source, filter-true, filter-false, cut-late, each-filter, each_later, contains_cases, contains_first, contains_more}
 
 -- ## by places
 
-pub zip_both : {X Y Z : Type 0} (R : X → Y → Type 0) (S : Y → Z → Type 0) (T : X → Z → Type 0) → ((x : X) (y : Y) (z : Z) → R x y → S y z → T x z) → (xs : List X) (ys : List Y) (zs : List Z) → AllZip R xs ys → AllZip S ys zs → AllZip T xs zs
-zip_both R S T w [] [] [] a b = tt
-zip_both R S T w [] [] (z ∷ zs) a b = absurd b
-zip_both R S T w [] (y ∷ ys) zs a b = absurd a
-zip_both R S T w (x ∷ xs) [] zs a b = absurd a
-zip_both R S T w (x ∷ xs) (y ∷ ys) [] a b = absurd b
-zip_both R S T w (x ∷ xs) (y ∷ ys) (z ∷ zs) a b = (w x y z a.0 b.0, zip_both R S T w xs ys zs a.1 b.1)
+pub zip_more : {X : Type 0} (R : X → X → Type 0) → ((x y z : X) → R x y → R y z → R x z) → (xs ys zs : List X) → AllZip R xs ys → AllZip R ys zs → AllZip R xs zs
+zip_more R t [] [] zs a b = b
+zip_more R t [] (y ∷ ys) zs a b = absurd a
+zip_more R t (x ∷ xs) [] zs a b = absurd a
+zip_more R t (x ∷ xs) (y ∷ ys) [] a b = absurd b
+zip_more R t (x ∷ xs) (y ∷ ys) (z ∷ zs) a b = (t x y z a.0 b.0, zip_more R t xs ys zs a.1 b.1)
+
+pub zip_weaker : {X Y : Type 0} (R S : X → Y → Type 0) → ((x : X) (y : Y) → R x y → S x y) → (xs : List X) (ys : List Y) → AllZip R xs ys → AllZip S xs ys
+zip_weaker R S w [] [] h = tt
+zip_weaker R S w [] (y ∷ ys) h = absurd h
+zip_weaker R S w (x ∷ xs) [] h = absurd h
+zip_weaker R S w (x ∷ xs) (y ∷ ys) h = (w x y h.0, zip_weaker R S w xs ys h.1)
 
 -- ## filters
 

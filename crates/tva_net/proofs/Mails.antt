@@ -1,6 +1,6 @@
 -- Mail that nodes get, one delivery after another.
-use Rattle.tva_net.proofs.Common.{◌≡◌, ℕ, zero, suc, ◌<◌, ◌≤◌, Bool, true, false, cond, List, [], ◌∷◌, ◌++◌, length, get_or, set, map, filter, All, Option, refl, sym, subst, ◌∙◌, ap, arith, inl, inr, ◌==◌, ◌&&◌, nat_le, slice_get, option_map_or, AllZip, cases_eq, eq-eqb, ne_eqb, lt-leb, le-leb, and_right, append-nil, append_assoc, length-set, get_or-set_same, get_or-set_other, get_or_default, map-append, filter-append, All-weaker, AllZip-get_or, slice_get-get_or, LinkPlan, Input, Sending, input_time, Site, Gone, NodeState, Fits, IsAsBefore, arrival, CanDeliver, GotMail, GotMails, IsPostable, IsSameBut, KeepsWork, goes_to, mail_at, mail_to, HasNoNews}
-use Rattle.tva_net.proofs.PostedLists.{zip_length, zip_same}
+use Rattle.tva_net.proofs.Common.{◌≡◌, ℕ, zero, suc, ◌<◌, ◌≤◌, Bool, true, false, cond, List, [], ◌∷◌, ◌++◌, length, get_or, set, map, filter, All, Option, refl, sym, subst, ◌∙◌, ap, arith, inl, inr, ◌==◌, ◌&&◌, nat_le, slice_get, option_map_or, AllZip, cases_eq, eq-eqb, ne_eqb, lt-leb, le-leb, and_right, append-nil, append_assoc, length-set, get_or-set_same, get_or-set_other, get_or_default, map-append, filter-append, All-weaker, AllZip-get_or, slice_get-get_or, LinkPlan, Input, Sending, input_time, Site, Gone, NodeState, Fits, IsAsBefore, arrival, CanDeliver, GotMail, GotMails, IsPostable, IsSameBut, KeepsWork, goes_to, mail_at, mail_to, HasNoNews, AllZip-same, AllZip-long}
+use Rattle.tva_net.proofs.Lists.{zip_more}
 
 -- ## what is kept
 
@@ -33,18 +33,15 @@ keeps_more u v w a b = record {
   news = λ had. b.news (a.news had);
 }
 
-pub zip_more : {X : Type 0} (R : X → X → Type 0) → ((x y z : X) → R x y → R y z → R x z) → (xs ys zs : List X) → AllZip R xs ys → AllZip R ys zs → AllZip R xs zs
-zip_more R t [] [] zs a b = b
-zip_more R t [] (y ∷ ys) zs a b = absurd a
-zip_more R t (x ∷ xs) [] zs a b = absurd a
-zip_more R t (x ∷ xs) (y ∷ ys) [] a b = absurd b
-zip_more R t (x ∷ xs) (y ∷ ys) (z ∷ zs) a b = (t x y z a.0 b.0, zip_more R t xs ys zs a.1 b.1)
-
 -- one element is written
 pub zip_set : {X : Type 0} (R : X → X → Type 0) → ((x : X) → R x x) → (xs : List X) (i : ℕ) (w : X) → R (get_or xs i w) w → AllZip R xs (set xs i w)
 zip_set R same [] i w r = tt
-zip_set R same (x ∷ xs) zero w r = (r, zip_same R same xs)
+zip_set R same (x ∷ xs) zero w r = (r, AllZip-same R same xs)
 zip_set R same (x ∷ xs) (suc i) w r = (same x, zip_set R same xs i w r)
+
+-- what is posted to one node keeps what they all have
+pub post_keeps : (xs : List NodeState) (n : ℕ) (u w : NodeState) → n < length xs → IsAsBefore (get_or xs n u) w → AllZip KeepsWork xs (set xs n w)
+post_keeps xs n u w l same = zip_set KeepsWork keeps_same xs n w (rw (get_or_default xs n w u l) (kept_by (get_or xs n u) w same))
 
 -- and nothing happens to the others
 pub same_but : (place : ℕ) (nodes : List NodeState) (v : NodeState) → IsSameBut place nodes (set nodes place v)
@@ -87,27 +84,15 @@ got_agree a c xs ys e g = record {
 }
 
 -- one node gets mail
-pub got_at : (to : ℕ) (mail : List Input) (xs : List NodeState) (w : NodeState) → to < length xs → GotMail mail (get_or xs to w) w → GotMails (mail_at to mail) xs (set xs to w)
-got_at to mail xs w within g = record {
+pub got_at : (to : ℕ) (mail : List Input) (xs : List NodeState) (u w : NodeState) → to < length xs → GotMail mail (get_or xs to u) w → GotMails (mail_at to mail) xs (set xs to w)
+got_at to mail xs u w within g = record {
   count = length-set xs to w;
   each = λ n d l.
       elim (cases_eq to n) [
-        | inl e ↦ here n d e
-        | inr e ↦ elsewhere n d e
+        | inl e ↦ rw (← e, eq-eqb to to refl, get_or-set_same xs to w d within, get_or_default xs to d u within) g
+        | inr e ↦ rw (ne_eqb to n e, get_or-set_other xs to n w d (λ z. e (sym z))) (got_nothing (get_or xs n d))
       ];
 }
-  where
-    here : (n : ℕ) (d : NodeState) → to ≡ n → GotMail (mail_at to mail n) (get_or xs n d) (get_or (set xs to w) n d)
-    here n d e =
-        subst (λ (b : Bool). GotMail (cond b mail []) (get_or xs n d) (get_or (set xs to w) n d)) (sym (eq-eqb to n e))
-        (subst (λ (m : ℕ). GotMail mail (get_or xs m d) (get_or (set xs to w) m d)) e
-        (subst (λ (v : NodeState). GotMail mail (get_or xs to d) v) (sym (get_or-set_same xs to w d within))
-        (subst (λ (u : NodeState). GotMail mail u w) (sym (get_or_default xs to d w within)) g)))
-
-    elsewhere : (n : ℕ) (d : NodeState) → (to ≡ n → ⊥) → GotMail (mail_at to mail n) (get_or xs n d) (get_or (set xs to w) n d)
-    elsewhere n d e =
-        subst (λ (b : Bool). GotMail (cond b mail []) (get_or xs n d) (get_or (set xs to w) n d)) (sym (ne_eqb to n e))
-        (subst (λ (v : NodeState). GotMail [] (get_or xs n d) v) (sym (get_or-set_other xs to n w d (λ z. e (sym z)))) (got_nothing (get_or xs n d)))
 
 -- ## mail that is being given
 
@@ -126,10 +111,6 @@ going_more all left one less xs ys zs g h e = record {
   got = got_more g.done one (λ n. g.done n ++ one n) xs ys zs (λ n. refl) g.got h;
   rest = λ n. append_assoc (g.done n) (one n) (less n) ∙ (ap (λ (is : List Input). g.done n ++ is) (sym (e n)) ∙ g.rest n);
 }
-
-pub going_last : (all left : ℕ → List Input) (xs ys : List NodeState) → IsGoing all left xs ys → ((n : ℕ) → left n ≡ []) → GotMails all xs ys
-going_last all left xs ys g none =
-    got_agree g.done all xs ys (λ n. sym (append-nil (g.done n)) ∙ (ap (λ (is : List Input). g.done n ++ is) (sym (none n)) ∙ g.rest n)) g.got
 
 -- ## what can still be given
 
@@ -214,4 +195,4 @@ going_one horizon links all left rest s nodes now more e h g =
 
 -- what nodes that told all got leaves them so
 pub all_quiet : (xs ys : List NodeState) → AllZip KeepsWork xs ys → All HasNoNews xs → All HasNoNews ys
-all_quiet xs ys z h = λ n d l. let k : n < length xs = omega (arith, l, zip_length KeepsWork xs ys z) in (AllZip-get_or KeepsWork xs ys n d d z k).news (h n d k)
+all_quiet xs ys z h = λ n d l. let k : n < length xs = omega (arith, l, AllZip-long KeepsWork xs ys z) in (AllZip-get_or KeepsWork xs ys n d d z k).news (h n d k)

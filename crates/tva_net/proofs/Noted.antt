@@ -67,9 +67,6 @@ none_until v number until (None, e, k) l = λ log time s m n w. k log s time m w
 none_until v number until (Some u, e, k) l = λ log time s m n w. (k log s).2 time (omega (arith, n, l, e)) w
 
 module _ (times : List ℕ) (nodes : List NodeState) (noted : AreNoted times nodes) (stand : AllByRecursion Stands nodes) where
-  pub due_none : length times ≡ 0 → All HasNone nodes
-  due_none e n d l = absurd (let c = noted.count in omega (arith, e, c, l))
-
   module _ (place : ℕ) (v : NodeState) (least : IsLeastPlace times (Some place)) (is : v ≡ get_or nodes place v) where
     here : place < length nodes
     here = let l = least.0 in let c = noted.count in omega (arith, l, c)

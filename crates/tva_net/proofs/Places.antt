@@ -1,5 +1,5 @@
 -- Places in their order: one more is put among them, and all of them.
-use Rattle.tva_net.proofs.Common.{◌≡◌, ℕ, zero, suc, ◌+◌, ◌<◌, ◌≤◌, List, [], ◌∷◌, ◌++◌, length, get_or, ◌∙◌, arith, inl, inr, AllByRecursion, insert, cases_lt, get_or_default, All-from_recursion, recursion_from_All, each-append, each-weaker, Rises, AreAllPlaces, IsPutAmong}
+use Rattle.tva_net.proofs.Common.{◌≡◌, ℕ, zero, suc, ◌+◌, ◌<◌, ◌≤◌, List, [], ◌∷◌, ◌++◌, length, get_or, arith, inl, inr, AllByRecursion, insert, cases_lt, get_or_default, All-from_recursion, recursion_from_All, each-append, each-weaker, Rises, AreAllPlaces, IsPutAmong}
 
 -- ## one more place
 
@@ -33,14 +33,6 @@ rises_sorted (x ∷ xs) h zero zero l m = omega arith
 rises_sorted (x ∷ xs) h zero (suc j) l m = let k = All-from_recursion (λ z. x < z) xs h.0 j 0 (omega (arith, m)) in omega (arith, k)
 rises_sorted (x ∷ xs) h (suc i) zero l m = absurd (omega (arith, l))
 rises_sorted (x ∷ xs) h (suc i) (suc j) l m = rises_sorted xs h.1 i j (omega (arith, l)) (omega (arith, m))
-
--- it is there already
-pub put_same : (xs : List ℕ) (place i : ℕ) → Rises xs → i < length xs → get_or xs i 0 ≡ place → IsPutAmong place xs xs
-put_same xs place i h l e = record {
-  rises = h;
-  within = λ count m k. k;
-  elsewhere = λ other k. ((λ q. All-from_recursion (λ z. z ≡ other → ⊥) xs k i 0 l (e ∙ q)), k);
-}
 
 pub put_new : (xs : List ℕ) (place i : ℕ) → Rises xs → i ≤ length xs → ((k : ℕ) → k < i → get_or xs k 0 < place) → ((k : ℕ) → i ≤ k → k < length xs → place < get_or xs k 0) → IsPutAmong place xs (insert xs i place)
 put_new xs place i h l below above = record {

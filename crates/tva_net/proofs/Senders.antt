@@ -1,9 +1,9 @@
 -- What the links of nodes send: each packet on a link out of its node, and when it arrives.
-use Rattle.tva_net.proofs.Common.{◌≡◌, ℕ, zero, suc, ◌+◌, ◌*◌, ◌<◌, ◌≤◌, List, [], ◌∷◌, ◌++◌, length, get_or, map, filter, Bool, true, false, cond, Option, Some, None, refl, sym, subst, ◌∙◌, ap, ap₂, arith, inl, inr, ◌==◌, ◌&&◌, flat_map, nat_lt, nat_le, slice_get, option_map, option_map_or, option_and_then, AllByRecursion, cons_option, find, cases_Bool, cases_eq, cond-true, cond-false, eqb-true, eq-eqb, ne_eqb, lt-ltb, le-ltb, cases_lt, nat_tests, append-nil, filter-append, LinkLimits, LinkPlan, Config, NodePlan, from_source, filter-true, filter-false, filter-none, each-append, Input, Sending, Site, site_of, link_out, Entry, Took, Started, input_time, input_source, entry_time, GoesOn, due, start_after, port_logs, sendings, NodeState, unsent, arrival, link_from, links_out, site_at, goes_to, mail_to}
+use Rattle.tva_net.proofs.Common.{◌≡◌, ℕ, zero, suc, ◌+◌, ◌*◌, ◌<◌, ◌≤◌, List, [], ◌∷◌, ◌++◌, length, get_or, map, filter, Bool, true, false, cond, Option, Some, None, refl, sym, subst, ◌∙◌, ap, ap₂, arith, inl, inr, ◌==◌, ◌&&◌, flat_map, nat_lt, nat_le, slice_get, option_map, option_map_or, option_and_then, AllByRecursion, cons_option, find, cases_Bool, cases_eq, cond-true, cond-false, eqb-true, eq-eqb, ne_eqb, lt-ltb, le-ltb, cases_lt, nat_tests, append-nil, filter-append, LinkLimits, LinkPlan, Config, NodePlan, from_source, filter-true, filter-false, filter-none, each-append, Input, Sending, Site, site_of, link_out, Entry, Took, Started, input_time, input_source, entry_time, GoesOn, due, start_after, port_logs, sendings, NodeState, unsent, arrival, link_from, links_out, site_at, goes_to, mail_to, same_Some}
 use Rattle.tva_base.specs.declared.packet.Class.{Class}
 use Rattle.tva_shim.specs.Packets.{PacketData, packet_length}
 use Rattle.tva_plan.specs.Wiring.{picked}
-use Rattle.tva_net.proofs.Lists.{drop_none, some_same}
+use Rattle.tva_net.proofs.Lists.{drop_none}
 
 -- ## the links out of a node
 
@@ -17,7 +17,7 @@ among_rest n key k l ls o (i, is, at, from) = (suc i, omega (arith, is), at, fro
 among_first : (n key k : ℕ) (l : LinkPlan) (ls : List LinkPlan) (o : ℕ × LinkPlan) → (l.from == n) ≡ true → (k == key) ≡ true → Some (let x : ℕ × LinkPlan = (k, l) in x) ≡ Some o → IsAmong n key k (l ∷ ls) o
 among_first n key k l ls o a b e =
     let pair : ℕ × LinkPlan = (k, l) in
-    let same : pair ≡ o = some_same pair o e in
+    let same : pair ≡ o = same_Some pair o e in
     let link : l ≡ o.1 = ap (λ (x : ℕ × LinkPlan). x.1) same in
     let key_is : k ≡ key = eqb-true k key b in
     (0, omega (arith, key_is), ap Some link, ap (λ (x : LinkPlan). x.from) (sym link) ∙ eqb-true l.from n a)
@@ -41,7 +41,7 @@ out_by : (config : Config) (n key : ℕ) (site : Site) (o : ℕ × LinkPlan) (fo
     → (slice_get config.links key ≡ Some o.1) × (o.1.from ≡ n)
 out_by config n key site o None e f = absurd (cc)
 out_by config n key site o (Some p) e f =
-    let same : site_of n p (links_out n config.links) ≡ site = some_same (site_of n p (links_out n config.links)) site e in
+    let same : site_of n p (links_out n config.links) ≡ site = same_Some (site_of n p (links_out n config.links)) site e in
     let f' : find (λ (x : ℕ × LinkPlan). x.0 == key) (picked (link_from n) 0 config.links) ≡ Some o = subst (λ (s : Site). link_out s key ≡ Some o) (sym same) f in
     let (i, is, at, from) = found_in n key 0 config.links o f' in
     let place : key ≡ i = omega (arith, is) in

@@ -1,5 +1,5 @@
 -- The order that a stable sort by time leaves.
-use Rattle.tva_net.proofs.Common.{ℕ, ◌≤◌, List, [], ◌∷◌, map, refl, sym, ◌∙◌, ap, ◌==◌, Event, NeverFalls, at_time, event_time, IsByTime}
+use Rattle.tva_net.proofs.Common.{ℕ, ◌≤◌, List, [], ◌∷◌, map, refl, sym, ◌∙◌, ap, ◌==◌, Event, NeverFalls, at_time, event_time, IsByTime, each-map}
 use Rattle.std.specs.Borrow.{Bor}
 use Rattle.std.specs.Ordering.{nat_cmp}
 use Rattle.std.specs.List.Sorted.{IsNonDecreasingBy, IsStableByKey}
@@ -8,7 +8,6 @@ use Rattle.tva_base.specs.declared.event.ShapeKind.TheVariants as shape
 use Rattle.tva_base.specs.declared.packet.Outcome.TheVariants as outcome
 use Rattle.tva_run.proofs.Reports.{filter-map}
 use Rattle.tva_node.proofs.Sorting.{falls_from, ties_from}
-use Rattle.tva_net.proofs.PostedLists.{each_map}
 
 -- some event at a time
 abbrev event_at : ℕ → Bor Event
@@ -19,7 +18,7 @@ time_of event = event_time event.now
 
 falls_behind : (events : List (Bor Event)) → NeverFalls time_of events → NeverFalls event_time (map (λ event. event.now) events)
 falls_behind [] h = tt
-falls_behind (x ∷ xs) h = (each_map (λ event. event.now) (λ e. event_time x.now ≤ event_time e) xs h.0, falls_behind xs h.1)
+falls_behind (x ∷ xs) h = (each-map (λ event. event.now) (λ e. event_time x.now ≤ event_time e) xs h.0, falls_behind xs h.1)
 
 -- of references to events
 pub by_time : (told ordered : List (Bor Event)) → IsNonDecreasingBy time_of ordered → IsStableByKey time_of nat_cmp told ordered → IsByTime (map (λ event. event.now) told) (map (λ event. event.now) ordered)

@@ -1,8 +1,7 @@
 -- What stands between two windows: the nodes by their places, and when there is nothing to do.
-use Rattle.tva_net.proofs.Common.{◌≡◌, ℕ, suc, ◌+◌, ◌<◌, ◌≤◌, List, [], ◌∷◌, ◌++◌, length, get_or, Option, Some, None, All, refl, sym, subst, ◌∙◌, ap, arith, inl, inr, slice_get, option_map, option_map_or, AllByRecursion, slice_get_cases, slice_get_within, get_or_from_slice_get, Event, Time, LinkPlan, Config, NodePlan, IsLinkPlan, all_here, Row, Site, site_of, in_turn, IsWorkAt, events, NodeState, legal, Logs, log_at, links_out, site_at, events_at, IsRunTo, AreFirstWindows, AreWindows, HasWork, IsAtRest, IsNextWindow, IsOver, Window, least_delay, window_length, run_rests, none_before, are_delayed, HasNone, IsFirstTime, IsNodeAt, WorksFor, ByPlace, IsWholeRun, TellOf, WorkState, reaches_rise}
+use Rattle.tva_net.proofs.Common.{◌≡◌, ℕ, suc, ◌+◌, ◌<◌, ◌≤◌, List, [], ◌∷◌, ◌++◌, length, get_or, Option, Some, None, All, refl, sym, subst, ◌∙◌, ap, arith, inl, inr, slice_get, option_map, option_map_or, AllByRecursion, slice_get_cases, slice_get_within, get_or_from_slice_get, Event, Time, LinkPlan, Config, NodePlan, IsLinkPlan, all_here, Row, Site, site_of, in_turn, IsWorkAt, events, NodeState, legal, Logs, log_at, links_out, site_at, events_at, IsRunTo, AreFirstWindows, AreWindows, HasWork, IsAtRest, IsNextWindow, IsOver, Window, least_delay, window_length, run_rests, none_before, are_delayed, HasNone, IsFirstTime, IsNodeAt, WorksFor, ByPlace, IsWholeRun, TellOf, WorkState, reaches_rise, same_Some}
 use Rattle.tva_run.specs.Legal.{AreShort}
 use Rattle.tva_run.proofs.Legal.{legal_short}
-use Rattle.tva_net.proofs.Lists.{some_same}
 use Rattle.tva_net.proofs.Nodes.{has_work, rests}
 use Rattle.tva_net.proofs.Resting.{work_back, work_then}
 
@@ -69,7 +68,7 @@ module _ (config : Config) (rows : List Row) (windows : List Window) (told : Lis
   place_of n site e =
       let l : n < length w.nodes = omega (arith, site_within config n site e, h.kept.count) in
       elim (slice_get_cases w.nodes n).1 [
-        | inl in' ↦ (in'.0, l, some_same (get_or w.nodes n in'.0).site site (sym (h.kept.nodes n in'.0 l).site ∙ e))
+        | inl in' ↦ (in'.0, l, same_Some (get_or w.nodes n in'.0).site site (sym (h.kept.nodes n in'.0 l).site ∙ e))
         | inr past ↦ absurd (omega (arith, past.0, l))
       ]
 

@@ -1,9 +1,8 @@
 -- A window keeps the run: what the nodes' logs add is the run's, and the inboxes have it all afterwards.
-use Rattle.tva_net.proofs.Common.{◌≡◌, ℕ, zero, suc, ◌+◌, ◌<◌, ◌≤◌, min, List, [], ◌∷◌, ◌++◌, length, get_or, drop, map, filter, Bool, true, false, cond, Option, Some, None, All, refl, sym, subst, ◌∙◌, ap, ap₂, arith, inl, inr, flat_map, slice_get, nat_lt, ◌==◌, option_map, option_map_or, AllByRecursion, AllZip, append-nil, drop_at, map-append, filter-append, filter_map-append, All-from_recursion, AllZip-get_or, slice_get_cases, slice_get_past, slice_get_within, get_or_from_slice_get, Event, Time, LinkPlan, Config, NodePlan, IsLinkPlan, all_here, Row, IsJoin, cut, from_source, each-filter, each-weaker, cut-put_all, each_from_sources, put_all-append, Input, Sending, Site, link_out, site_of, Entry, input_time, input_source, entry_time, entry_rank, IsNodeLog, due, in_turn, IsQuiet, IsWorkAt, event_of, events, sending_of, sendings, IsNodeLog-unique, Gone, Keeps, NodeState, Stands, StandsFor, news, unsent, Logs, log_at, arrival, arrival_of, arrivals, arrivals_at, links_out, reaches, rows_at, site_at, AreEvents, event_node, event_time, events_at, HasLog, IsRunTo, logs_before, EachBeginsWith, IsNextWindow, Window, given, window_length, events_added, least_delay-least, run_goes_on, same_before, window_next, log_at-before, link_out_is, sent_arrives, site_number, CanDeliver, GotMail, GotMails, IsPostable, goes_to, mail_to, HasNoNews, IsFirstTime, of_place, IsNodeAt, WorksFor, WorkState, reaches_rise, IsThrough, if_some}
+use Rattle.tva_net.proofs.Common.{◌≡◌, ℕ, zero, suc, ◌+◌, ◌<◌, ◌≤◌, min, List, [], ◌∷◌, ◌++◌, length, get_or, drop, map, filter, Bool, true, false, cond, Option, Some, None, All, refl, sym, subst, ◌∙◌, ap, ap₂, arith, inl, inr, flat_map, slice_get, nat_lt, ◌==◌, option_map, option_map_or, AllByRecursion, AllZip, append-nil, drop_at, map-append, filter-append, filter_map-append, All-from_recursion, AllZip-get_or, slice_get_cases, slice_get_past, slice_get_within, get_or_from_slice_get, Event, Time, LinkPlan, Config, NodePlan, IsLinkPlan, all_here, Row, IsJoin, cut, from_source, each-filter, each-weaker, cut-put_all, each_from_sources, put_all-append, Input, Sending, Site, link_out, site_of, Entry, input_time, input_source, entry_time, entry_rank, IsNodeLog, due, in_turn, IsQuiet, IsWorkAt, event_of, events, sending_of, sendings, IsNodeLog-unique, Gone, Keeps, NodeState, Stands, StandsFor, news, unsent, Logs, log_at, arrival, arrival_of, arrivals, arrivals_at, links_out, reaches, rows_at, site_at, AreEvents, event_node, event_time, events_at, HasLog, IsRunTo, logs_before, EachBeginsWith, IsNextWindow, Window, given, window_length, events_added, least_delay-least, run_goes_on, same_before, window_next, log_at-before, link_out_is, sent_arrives, site_number, CanDeliver, GotMail, GotMails, IsPostable, goes_to, mail_to, HasNoNews, IsFirstTime, of_place, IsNodeAt, WorksFor, WorkState, reaches_rise, IsThrough, if_some, each-right, each_at_least, each-map, AllZip-long, same_Some}
 use Rattle.tva_run.proofs.Holding.{HappensAt, events_work}
 use Rattle.tva_net.proofs.NodePlaces.{of_place_is}
-use Rattle.tva_net.proofs.PostedLists.{each_map, zip_length}
-use Rattle.tva_net.proofs.Lists.{some_same, split_at}
+use Rattle.tva_net.proofs.Lists.{split_at}
 use Rattle.tva_net.proofs.Given.{given_more, held_more}
 use Rattle.tva_net.proofs.Nodes.{has_log}
 use Rattle.tva_net.proofs.Resting.{comes_early, log_then}
@@ -24,14 +23,6 @@ through_at : (until : ℕ) (mids : List NodeState) (h : AllByRecursion (IsThroug
 through_at until [] h n d l = absurd (omega (arith, l))
 through_at until (y ∷ ys) h zero d l = h.0.stands.1
 through_at until (y ∷ ys) h (suc n) d l = through_at until ys h.1 n d (omega (arith, l))
-
-each_right : {X : Type 0} (P : X → Type 0) (xs ys : List X) → AllByRecursion P (xs ++ ys) → AllByRecursion P ys
-each_right P [] ys h = h
-each_right P (x ∷ xs) ys h = each_right P xs ys h.1
-
-each_any : (es : List Entry) → AllByRecursion (λ e. 0 ≤ entry_time e) es
-each_any [] = tt
-each_any (e ∷ es) = (omega arith, each_any es)
 
 -- a node at which nothing is left to be done before a time, over what reaches it of what was sent before
 pub record IsMid (config : Config) (rows : List Row) (sent longer : Logs) (until : ℕ) (n : ℕ) (v : NodeState) : Type 0 where
@@ -85,7 +76,7 @@ module _ (config : Config) (rows : List Row) (windows : List Window) (told : Lis
   -- ## the nodes
 
   pub mid_count : length mids ≡ length w.nodes
-  mid_count = zip_length Keeps w.nodes mids kept
+  mid_count = AllZip-long Keeps w.nodes mids kept
 
   config_count : length mids ≡ length config.nodes
   config_count = mid_count ∙ h.kept.count
@@ -117,7 +108,7 @@ module _ (config : Config) (rows : List Row) (windows : List Window) (told : Lis
   mid_of n site e =
       let (d, k, same) = place_of config rows windows told w h n site e in
       let l : n < length mids = omega (arith, k, mid_count) in
-      (d, l, some_same (get_or mids n d).site site (sym (mid_at n d l).site ∙ e))
+      (d, l, same_Some (get_or mids n d).site site (sym (mid_at n d l).site ∙ e))
 
   has : (n : ℕ) (site : Site) → site_at config n ≡ Some site → HasLog config rows h.way.run.logs until site (log_at longer n)
   has n site e =
@@ -218,7 +209,7 @@ module _ (config : Config) (rows : List Row) (windows : List Window) (told : Lis
             let site = (get_or mids n d).site in
             let (rest, f) = further n d l in
             subst (λ (es : List Event). AllByRecursion (λ e. start.0 ≤ event_time e) es) (sym (told_there n d l rest f))
-            (each_map (event_of site) (λ e. start.0 ≤ event_time e) rest f.late)
+            (each-map (event_of site) (λ e. start.0 ≤ event_time e) rest f.late)
         | inr past ↦ subst (λ (es : List Event). AllByRecursion (λ e. start.0 ≤ event_time e) es) (sym (told_past n past.0)) tt
       ]
 
@@ -264,7 +255,7 @@ module _ (config : Config) (rows : List Row) (windows : List Window) (told : Lis
       let lag = g.2 in
       record { link = o.1; here = at.0; late = omega (arith, least, lag, short) })
       (sendings site rest)
-      (sent_from site start.0 rest (each_right (HasLink site) (log_at h.way.run.logs n) rest links) f.late)
+      (sent_from site start.0 rest (each-right (HasLink site) (log_at h.way.run.logs n) rest links) f.late)
 
   abbrev pub sent : List Sending
   sent = flat_map unsent mids
@@ -307,7 +298,7 @@ module _ (config : Config) (rows : List Row) (windows : List Window) (told : Lis
 
   mail_late : (n : ℕ) → AllByRecursion (λ i. until ≤ input_time i) (mail n)
   mail_late n =
-      each_map arrival (λ i. until ≤ input_time i) (filter (goes_to config.horizon.0 config.links n) sent)
+      each-map arrival (λ i. until ≤ input_time i) (filter (goes_to config.horizon.0 config.links n) sent)
       (each-filter (λ (s : Sending). until ≤ s.arrive.0) (goes_to config.horizon.0 config.links n) sent
       (each-weaker (IsGoing config until) (λ s. until ≤ s.arrive.0) (λ s g. g.late) sent all_going))
 
@@ -319,9 +310,9 @@ module _ (config : Config) (rows : List Row) (windows : List Window) (told : Lis
       ∙ sends_none v.site 0 k (sendings v.site (log_at longer i))
       (λ o f.
       let at = out_is config i k v.site o m.site f in
-      let same : o.1 ≡ link = some_same o.1 link (sym at.0 ∙ here) in
+      let same : o.1 ≡ link = same_Some o.1 link (sym at.0 ∙ here) in
       apart (sym (ap (λ (x : LinkPlan). x.from) (sym same) ∙ at.1)))
-      (sent_from v.site 0 (log_at longer i) (linked i e l) (each_any (log_at longer i)))
+      (sent_from v.site 0 (log_at longer i) (linked i e l) (each_at_least entry_time entry_rank (log_at longer i)))
 
   -- what is sent on a link arrives
   on_link : (n k : ℕ) (link : LinkPlan) → slice_get config.links k ≡ Some link → (link.to == n) ≡ true
@@ -384,7 +375,7 @@ module _ (config : Config) (rows : List Row) (windows : List Window) (told : Lis
 
   list_early : (list : List Event) → IsJoin event_time event_node (of_place news mids) list → AllByRecursion (λ e. event_time e < until) list
   list_early list join =
-      each_right (λ e. event_time e < until) told list
+      each-right (λ e. event_time e < until) told list
       (each-weaker (λ e. HappensAt config rows longer until (event_time e)) (λ e. event_time e < until) (λ e k. k.1) (told ++ list)
       (events_work config rows until longer (told ++ list) run_on (events_on list join)))
 

@@ -1,13 +1,12 @@
 -- Nodes that are worked up to a time, one after another or all at once.
-use Rattle.tva_net.proofs.Common.{◌≡◌, ℕ, ◌-◌, ◌<◌, ◌≤◌, List, [], ◌∷◌, length, get_or, set, All, refl, sym, subst, ◌∙◌, ap, arith, AllByRecursion, AllZip, sum_by, get_or_default, get_or-set_other, length-set, All-from_recursion, All-head, All-set, All-tail, recursion_from_All, sum_by-set, IsAdvanced, Keeps, NodeState, Stands, keeps_on, keeps_same, HasNoneBefore, IsElsewhere, Rises, AreAllPlaces, AreThrough, CanGoTo, IsPutAmong, IsThrough, IsWorkedAt, HasWorkBefore}
-use Rattle.tva_net.proofs.PostedLists.{zip_same}
-use Rattle.tva_net.proofs.Lists.{zip_both}
+use Rattle.tva_net.proofs.Common.{◌≡◌, ℕ, ◌-◌, ◌<◌, ◌≤◌, List, [], ◌∷◌, length, get_or, set, All, refl, sym, subst, ◌∙◌, ap, arith, AllByRecursion, AllZip, sum_by, get_or_default, get_or-set_other, length-set, All-from_recursion, All-head, All-set, All-tail, recursion_from_All, sum_by-set, IsAdvanced, Keeps, NodeState, Stands, keeps_on, keeps_same, HasNoneBefore, IsElsewhere, Rises, AreAllPlaces, AreThrough, CanGoTo, IsPutAmong, IsThrough, IsWorkedAt, HasWorkBefore, AllZip-same}
+use Rattle.tva_net.proofs.Lists.{zip_more}
 use Rattle.tva_net.proofs.Mails.{zip_set}
 
 -- ## what is kept
 
 pub kept_more : (a b c : List NodeState) → AllZip Keeps a b → AllZip Keeps b c → AllZip Keeps a c
-kept_more a b c h k = zip_both Keeps Keeps Keeps keeps_on a b c h k
+kept_more a b c h k = zip_more Keeps keeps_on a b c h k
 
 pub kept_set : (nodes : List NodeState) (place : ℕ) (v : NodeState) → ((d : NodeState) → Keeps (get_or nodes place d) v) → AllZip Keeps nodes (set nodes place v)
 kept_set nodes place v k = zip_set Keeps keeps_same nodes place v (k v)
@@ -39,7 +38,7 @@ pub none_worked : (until : ℕ) (nodes : List NodeState) (places : List ℕ) →
 none_worked until nodes places none stand reach = subst (AreWorkedSoFar until nodes nodes) (sym none) (record {
   stand = stand;
   reach = reach;
-  kept = zip_same Keeps keeps_same nodes;
+  kept = AllZip-same Keeps keeps_same nodes;
   count = refl;
   rises = tt;
   within = tt;

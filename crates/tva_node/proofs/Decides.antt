@@ -1,5 +1,5 @@
 -- What a link of a node does at a time, and what the node stands for then.
-use Rattle.tva_node.proofs.Common.{◌≡◌, ℕ, ◌+◌, ◌*◌, ◌<◌, ◌≤◌, false, List, [], ◌∷◌, ◌++◌, length, get_or, map, set, All, Option, Some, None, Result, Ok, Err, refl, sym, subst, ◌∙◌, ap, arith, append-nil, true≢false, IsSome, OnOk, option_map_or, option_and_then, eq-eqb, get_or-map, length-map, filter_map-append, All-get_or, Event, LinkLimits, LinkPlan, Class, AreLinkLimits, links_of, PacketData, packet_length, Decision, Start, WaitUntil, Idle, IsLegal, is_start, Input, Sending, Site, IsLinkOut, AreRising, link_out, limits_out, site_of, Entry, Started, port_entry, port_logs, starts, start_of, start_after, at_time, next_by, next_decision, next_on, busy_starts_none, free_starts, next_busy, next_rested, Link, Parts, Role, Memory, with_next, link_pair, RoleStands, IsBy, Gone, Keeps, NodeState, gone_in, role_plan, site_at, state_of, StandsAt, Decides, started_by, IsRank, AwaitsAt, DecidesAt, IsStartable, all_taken, end_on, start_event, start_sending}
+use Rattle.tva_node.proofs.Common.{nat_tests, ◌≡◌, ℕ, ◌+◌, ◌*◌, ◌<◌, ◌≤◌, false, List, [], ◌∷◌, ◌++◌, length, get_or, map, set, All, Option, Some, Result, refl, sym, subst, ◌∙◌, ap, arith, append-nil, OnOk, option_map_or, option_and_then, get_or-map, length-map, filter_map-append, All-get_or, Event, LinkLimits, LinkPlan, Class, AreLinkLimits, links_of, PacketData, packet_length, Decision, Start, IsLegal, is_start, Input, Sending, Site, IsLinkOut, AreRising, link_out, limits_out, site_of, Entry, Started, port_logs, starts, start_of, start_after, at_time, next_by, next_decision, next_on, busy_starts_none, free_starts, next_busy, next_rested, Link, Parts, Role, Memory, with_next, link_pair, RoleStands, IsBy, Gone, Keeps, NodeState, gone_in, role_plan, site_at, state_of, StandsAt, Decides, started_by, IsRank, AwaitsAt, DecidesAt, IsStartable, all_taken, end_on, start_event, start_sending}
 use Rattle.std.proofs.Math.Nat.{mul-le-mul_right}
 use Rattle.tva_base.specs.declared.event.Happened.TheVariants as happens
 use Rattle.tva_port.specs.Log as port
@@ -8,17 +8,11 @@ use Rattle.tva_node.proofs.Finding.{find-at, link_valid}
 use Rattle.tva_node.proofs.Roles.{role_legal}
 use Rattle.tva_node.proofs.Works.{found, pairs_put, rested, started_one}
 use Rattle.tva_node.proofs.Zips.{begins_same}
-
-no_start_none : (d : Decision) → is_start d ≡ false → start_of d ≡ None
-no_start_none (Start class p) e = absurd (cc)
-no_start_none (WaitUntil u) e = refl
-no_start_none Idle e = refl
+use Rattle.tva_run.proofs.Ports.{not_start}
 
 -- a start is the last entry of its link's log
 logs-own : (log : List Entry) (now link : ℕ) (class : Class) (packet : PacketData) → port_logs (log ++ Started now link class packet ∷ []) link ≡ port_logs log link ++ port.Started now class packet ∷ []
-logs-own log now link class packet =
-    filter_map-append (port_entry link) log (Started now link class packet ∷ [])
-    ∙ ap (λ (more : List port.Entry). port_logs log link ++ more) (rw (eq-eqb link link refl) refl)
+logs-own log now link class packet = grind (arith, nat_tests, filter_map-append)
 
 module _ (p : Parts) (now place rank : ℕ) (log : List Entry) (d : Link) (ranked : IsRank rank place p.links) (st : StandsAt (state_of p) now rank (all_taken (state_of p) now) log) (waits : AwaitsAt (state_of p) now rank log) (within : place < length p.links) where
   abbrev v : NodeState
@@ -66,12 +60,9 @@ module _ (p : Parts) (now place rank : ℕ) (log : List Entry) (d : Link) (ranke
     sendings = sendings;
   }
 
-  same_site : (next : Option ℕ) (role : Role) → role_plan role ≡ role_plan p.role → site ≡ site_of p.number (role_plan role) (map link_pair (put next))
-  same_site next role e = λ i. site_of p.number (sym e i) (sym (pairs_put p.links (put next) place d next within refl) i)
-
   at_site : (next : Option ℕ) (role : Role) (events : List Event) (sendings : List Sending) → role_plan role ≡ role_plan p.role
       → DecidesAt (record v { links = put next; role = role; events = events; sendings = sendings }) now (place + 1) → DecidesAt (state next role events sendings) now (place + 1)
-  at_site next role events sendings e h = subst (λ (s : Site). DecidesAt (record v { site = s; links = put next; role = role; events = events; sendings = sendings }) now (place + 1)) (same_site next role e) h
+  at_site next role events sendings e h = grind (arith, nat_tests)
 
   -- it is busy
   pub busy : (free : ℕ) → free ≡ port.free_after limits ports → now < free → DecidesAt (state (Some free) p.role p.log.all p.outbox.all) now (place + 1)
@@ -84,9 +75,7 @@ module _ (p : Parts) (now place rank : ℕ) (log : List Entry) (d : Link) (ranke
       st.role refl st.past)
 
   no_entry : (decides : Decision) → is_start decides ≡ false → log ++ started_by here.number now decides ≡ log
-  no_entry (Start class packet) e = absurd (cc)
-  no_entry (WaitUntil time) e = append-nil log
-  no_entry Idle e = append-nil log
+  no_entry decides e = grind (arith, nat_tests, append-nil)
 
   -- it starts nothing
   pub rest : (decides : Decision) (role : Role) → port.free_after limits ports ≤ now → Decides site log here.number now limits decides role → is_start decides ≡ false → role_plan role ≡ role_plan p.role → IsBy now role
@@ -94,7 +83,7 @@ module _ (p : Parts) (now place rank : ℕ) (log : List Entry) (d : Link) (ranke
   rest decides role free h none e by =
       at_site (next_by now decides) role p.log.all p.outbox.all e
       (rested v now place rank log d ranked st waits within (next_by now decides) role
-      (starts_is log ∙ (free_starts limits ports now free ∙ (ap start_of (sym h.0) ∙ no_start_none decides none)))
+      (starts_is log ∙ (free_starts limits ports now free ∙ (ap start_of (sym h.0) ∙ not_start decides none)))
       (sym (next_rested limits ports now decides valid legal.0 legal.1 free h.0 none) ∙ sym (next_is log))
       (subst (RoleStands site role) (no_entry decides none) h.1) e by)
 
@@ -131,32 +120,14 @@ module _ (p : Parts) (now place rank : ℕ) (log : List Entry) (d : Link) (ranke
 
 -- ## by what the code reads
 
--- what is so of each packet that the hand may hold is so, where it holds one
-pub by_packet : {A : Type 0} (hand : Option PacketData) → IsSome hand → ((packet : PacketData) → hand ≡ Some packet → A) → A
-by_packet (Some packet) held by = by packet refl
-by_packet None held by = absurd (true≢false (sym held))
-
 -- what a node was that is now
 pub from_fields : (q : Parts) (number horizon worked : ℕ) (role : Role) (links : List Link) (inbox : List Input) (waiting : List Input) (keeps : Memory) (gone : Gone) (es : List Event) (ss : List Sending)
     → q.number ≡ number → q.horizon ≡ horizon → q.worked_to ≡ worked → q.role ≡ role → q.links ≡ links → q.inbox.all ≡ inbox → q.waiting ≡ waiting → q.log.all ≡ es → q.outbox.all ≡ ss → q.outbox.keeps ≡ keeps → gone_in q ≡ gone
     → record { site = site_of number (role_plan role) (map link_pair links); horizon = horizon; inbox = inbox; events = es; sendings = ss; worked_to = worked; keeps = keeps; gone = gone; role = role; links = links; waiting = waiting } ≡ state_of q
-from_fields q number horizon worked role links inbox waiting keeps gone es ss e1 e2 e3 e4 e5 e6 e7 e8 e9 e10 e11 = λ i. record {
-  site = site_of (sym e1 i) (role_plan (sym e4 i)) (map link_pair (sym e5 i));
-  horizon = sym e2 i;
-  inbox = sym e6 i;
-  events = sym e8 i;
-  sendings = sym e9 i;
-  worked_to = sym e3 i;
-  role = sym e4 i;
-  links = sym e5 i;
-  keeps = sym e10 i;
-  gone = sym e11 i;
-  waiting = sym e7 i;
-}
+from_fields q number horizon worked role links inbox waiting keeps gone es ss e1 e2 e3 e4 e5 e6 e7 e8 e9 e10 e11 = grind (arith, nat_tests)
 
 pub on_both : {T E : Type 0} (A B C : Type 0) (r : Result T E) → (A → B → C) → OnOk r A → OnOk r B → OnOk r C
-on_both A B C (Ok x) f a b = f a b
-on_both A B C (Err e) f a b = tt
+on_both A B C r f a b = grind (arith, nat_tests)
 
 module _ (p : Parts) (now place : ℕ) (a : Link) (ea : a ≡ get_or p.links place a) (within : place < length p.links) (d : DecidesAt (state_of p) now place) where
   abbrev site' : Site
@@ -204,28 +175,19 @@ module _ (p : Parts) (now place : ℕ) (a : Link) (ea : a ≡ get_or p.links pla
   -- its numbers fit their types
   pub read_fits : (x : Link) → IsStartable now (get_or p.links place x)
   read_fits x =
-      let limits = valid p now place d.0 d.1 x d.2 d.3 d.4 within in
       let pairs : All (IsLinkOut site'.number) (map link_pair p.links) = subst (All (IsLinkOut site'.number)) stands'.out stands'.site.links in
       let out : IsLinkOut site'.number (link_pair (get_or p.links place x)) =
       subst (IsLinkOut site'.number) (get_or-map link_pair p.links place x (link_pair x) within) (All-get_or (IsLinkOut site'.number) (map link_pair p.links) place (link_pair x) (rw (length-map p.links link_pair) within) pairs) in
       record {
         time = (let h = stands'.horizon in omega (arith, h.0, h.1));
-        rate = limits.ns_per_byte.1;
+        rate = (valid p now place d.0 d.1 x d.2 d.3 d.4 within).ns_per_byte.1;
         delay = out.delay.1;
       }
 
 -- nothing happens at a node of which a link decides next at another time
 pub keeps_put : (p : Parts) (links : List Link) (place : ℕ) (a : Link) (next : Option ℕ) (role : Role) → place < length p.links → links ≡ with_next place next p.links a → role_plan role ≡ role_plan p.role
     → Keeps (state_of p) (record (state_of p) { site = site_of p.number (role_plan role) (map link_pair links); links = links; role = role })
-keeps_put p links place a next role within e plan = record {
-  site = λ i. record { number = p.number; plan = plan i; links = pairs_put p.links links place a next within e i };
-  horizon = refl;
-  inbox = refl;
-  events = begins_same p.log.all;
-  sendings = begins_same p.outbox.all;
-  keeps = refl;
-  gone = refl;
-}
+keeps_put p links place a next role within e plan = grind (arith, nat_tests, pairs_put, begins_same)
 
 -- a node keeps as many links
 pub count_kept : (p q : Parts) → Keeps (state_of p) (state_of q) → length q.links ≡ length p.links

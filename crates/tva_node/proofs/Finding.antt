@@ -1,5 +1,5 @@
 -- The links of a node by their numbers.
-use Rattle.tva_node.proofs.Common.{◌≡◌, ℕ, zero, suc, ◌<◌, Bool, true, List, [], ◌∷◌, length, get_or, map, All, Option, Some, None, refl, sym, subst, ◌∙◌, arith, inl, inr, ◌==◌, option_map, find, eq-eqb, ne_eqb, eqb-true, cases_Bool, cond-true, cond-false, All-head, All-map, All-tail, LinkLimits, LinkPlan, AreLinkLimits, links_of, AreRising, Site, IsSite, IsLinkOut, limits_out, Link, link_pair}
+use Rattle.tva_node.proofs.Common.{nat_tests, ◌≡◌, ℕ, zero, suc, ◌<◌, Bool, true, List, [], ◌∷◌, length, get_or, map, All, Option, Some, None, refl, sym, subst, ◌∙◌, arith, ◌==◌, option_map, find, eq-eqb, ne_eqb, eqb-true, cond-true, cond-false, All-head, All-map, All-tail, LinkLimits, LinkPlan, AreLinkLimits, links_of, AreRising, Site, IsSite, IsLinkOut, limits_out, Link, link_pair}
 
 abbrev number_is : ℕ → ℕ × LinkPlan → Bool
 number_is k o = o.0 == k
@@ -7,25 +7,19 @@ number_is k o = o.0 == k
 -- a number that no link has
 pub find-none : (k : ℕ) (ls : List Link) → All (λ (l : Link). l.number ≡ k → ⊥) ls → find (λ o. o.0 == k) (map link_pair ls) ≡ None
 find-none k [] h = refl
-find-none k (l ∷ ls) h =
-    cond-false (l.number == k) (Some (link_pair l)) (find (λ o. o.0 == k) (map link_pair ls)) (ne_eqb l.number k (All-head (λ (x : Link). x.number ≡ k → ⊥) l ls h))
-    ∙ find-none k ls (All-tail (λ (x : Link). x.number ≡ k → ⊥) l ls h)
+find-none k (l ∷ ls) h = grind (arith, nat_tests, All-head, All-tail, (find-none k ls (All-tail (λ (x : Link). x.number ≡ k → ⊥) l ls h)))
 
 -- what is found meets what all meet, and the test
 find_holds : {X : Type 0} (P : X → Type 0) (p : X → Bool) (xs : List X) (x : X) → All P xs → find p xs ≡ Some x → P x × (p x ≡ true)
 find_holds P p [] x h e = absurd (cc)
-find_holds P p (y ∷ ys) x h e = elim (cases_Bool (p y)) [
-  | inl a ↦ let found : Some y ≡ Some x = sym (cond-true (p y) (Some y) (find p ys) a) ∙ e in let same : y ≡ x = cc in subst (λ z. P z × (p z ≡ true)) same (All-head P y ys h, a)
-  | inr a ↦ find_holds P p ys x (All-tail P y ys h) (sym (cond-false (p y) (Some y) (find p ys) a) ∙ e)
-]
+find_holds P p (y ∷ ys) x h e = grind (arith, nat_tests, All-head, All-tail, (find_holds P p ys x (All-tail P y ys h)))
 
 -- what is found is a link
 pub find-some : (P : Link → Type 0) (k : ℕ) (ls : List Link) (o : ℕ × LinkPlan) → All P ls → find (λ x. x.0 == k) (map link_pair ls) ≡ Some o → (l : Link) × (P l × (l.number ≡ k))
 find-some P k ls o h e =
     let Q : ℕ × LinkPlan → Type 0 = λ x. (l : Link) × (P l × (link_pair l ≡ x)) in
     let found = find_holds Q (λ x. x.0 == k) (map link_pair ls) o (All-map Q link_pair ls (λ i d m. (get_or ls i d, (h i d m, refl)))) e in
-    let l = found.0.0 in
-    (l, (found.0.1.0, eqb-true l.number k (subst (λ (x : ℕ × LinkPlan). (x.0 == k) ≡ true) (sym found.0.1.1) found.1)))
+    (found.0.0, (found.0.1.0, eqb-true found.0.0.number k (subst (λ (x : ℕ × LinkPlan). (x.0 == k) ≡ true) (sym found.0.1.1) found.1)))
 
 -- ## numbers that rise
 

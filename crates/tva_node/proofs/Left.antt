@@ -1,5 +1,5 @@
 -- The inputs of a node that wait.
-use Rattle.tva_node.proofs.Common.{◌≡◌, ℕ, ◌+◌, ◌<◌, ◌≤◌, List, [], ◌∷◌, ◌++◌, Some, sym, subst, ◌∙◌, ap, arith, false, true, append-nil, append_assoc, nat_lt, ◌==◌, AllByRecursion, eqb-true, nat_tests, filter-append, recursion_from_All, IsInOrder, cut-early, cut-late, each_later, each-put_all, in_order-put_all, Input, input_time, input_source, in_turn, due, rest_late, AreLeft, IsNoneBefore, first_time, is_due}
+use Rattle.tva_node.proofs.Common.{◌≡◌, ℕ, ◌+◌, ◌<◌, ◌≤◌, List, [], ◌∷◌, ◌++◌, Some, sym, subst, ◌∙◌, arith, false, true, append-nil, append_assoc, AllByRecursion, eqb-true, nat_tests, filter-append, recursion_from_All, IsInOrder, cut-early, cut-late, each_later, each-put_all, in_order-put_all, Input, input_time, input_source, in_turn, due, rest_late, AreLeft, IsNoneBefore, first_time, is_due}
 use Rattle.std.specs.Prelude.{All}
 
 pub in_turn-ordered : (xs : List Input) → IsInOrder input_time input_source (in_turn xs)
@@ -23,12 +23,7 @@ module _ (inbox : List Input) (taken : List Input) (waiting : List Input) (left 
 
   -- where all that was taken is early and all that is left is late, what was taken is what is due
   pub taken_due : (n : ℕ) → AllByRecursion (λ i. input_time i < n) taken → IsNoneBefore n (first_time waiting) → due n (in_turn inbox) ≡ taken
-  taken_due n a h =
-      ap (due n) left
-      ∙ (filter-append (λ i. nat_lt (input_time i) n) taken waiting
-      ∙ (ap (λ (ys : List Input). ys ++ due n waiting) (cut-early input_time input_source n taken a)
-      ∙ (ap (λ (ys : List Input). taken ++ ys) (cut-late input_time input_source n waiting (left_late n h))
-      ∙ append-nil taken)))
+  taken_due n a h = grind (arith, nat_tests, filter-append, cut-early, cut-late, left_late, append-nil)
 
   -- each that waits was given
   pub waiting_each : (P : Input → Type 0) → All P inbox → AllByRecursion P waiting
@@ -40,11 +35,7 @@ module _ (inbox : List Input) (taken : List Input) (waiting : List Input) (left 
 
 -- the next is not before what is due
 pub next_late : (w : ℕ) (inbox waiting : List Input) (t : ℕ) → AreLeft inbox (due w (in_turn inbox)) waiting → first_time waiting ≡ Some t → w ≤ t
-next_late w inbox [] t left e = absurd (cc)
-next_late w inbox (i ∷ is) t left e =
-    let late = rest_late w (in_turn inbox) (i ∷ is) left in
-    let same : input_time i ≡ t = cc in
-    let a = late.0 in omega arith
+next_late w inbox waiting t left e = grind (arith, nat_tests, rest_late)
 
 -- the next is taken
 pub next_left : (inbox taken : List Input) (input : Input) (waiting : List Input) → AreLeft inbox taken (input ∷ waiting) → AreLeft inbox (taken ++ input ∷ []) waiting
@@ -52,11 +43,7 @@ next_left inbox taken input waiting e = e ∙ sym (append_assoc taken (input ∷
 
 -- none waits of a time at which the next does not come
 pub none_due : (now : ℕ) (waiting : List Input) → is_due now waiting ≡ false → AllByRecursion (λ i. now ≤ input_time i) waiting → IsNoneBefore (now + 1) (first_time waiting)
-none_due now [] e h = tt
-none_due now (i ∷ is) e h = later (input_time i) h.0 e
-  where
-    later : (t : ℕ) → now ≤ t → (t == now) ≡ false → now + 1 ≤ t
-    later t a b = grind (arith, nat_tests)
+none_due now waiting e h = grind (arith, nat_tests)
 
 pub some_due : (now : ℕ) (waiting : List Input) (input : Input) (rest : List Input) → is_due now waiting ≡ true → waiting ≡ input ∷ rest → input_time input ≡ now
 some_due now waiting input rest h e = eqb-true (input_time input) now (subst (λ is. is_due now is ≡ true) e h)

@@ -1,5 +1,5 @@
 -- What is in force at a router that makes its changes in their turn.
-use Rattle.tva_node.proofs.Common.{◌≡◌, ℕ, zero, suc, ◌+◌, ◌≤◌, ◌<◌, Bool, true, false, cond, List, [], ◌∷◌, ◌++◌, filter, map, take, drop, length, get_or, Option, Some, None, All, refl, sym, subst, ap, ap₂, ◌∙◌, arith, inl, inr, append-nil, ◌==◌, nat_le, Contains, AllByRecursion, IsNonDecreasingBy, IsPermutation, IsStableByKey, nat_cmp, cases_Bool, cond-true, cond-false, le-leb, nat_tests, map_push, take-append-drop, take_more, length-take-le, filter-append, All-get_or, Contains-get_or, All-permutation, length-filter, Prefix, Time, RouterPlan, IsRouterPlan, links_of, boot_at, changed_plan, has_come, in_force, last_of, master_at, of_prefix, route_at, same_prefix, Charge, charges_of_boot, PortLogs, outgoing_link, rerouted, RouterData, NeverFalls, each-append, each-weaker, filter-all, filter-none, filter-true, filter-false, filter_swap, in_order-filter, join_unique, charges, port_logs, charges_none, Changes, Routed, AreByTime, AreMade, move_time, plan_after, restart_time, route_after, IsRoutedBy, IsNextLater, IsRestarted, IsUpTo, StandsOn}
+use Rattle.tva_node.proofs.Common.{◌≡◌, ℕ, zero, suc, ◌+◌, ◌≤◌, ◌<◌, Bool, true, false, cond, List, [], ◌∷◌, ◌++◌, filter, map, take, drop, length, get_or, Option, Some, None, All, refl, sym, subst, ap, ap₂, ◌∙◌, arith, append-nil, ◌==◌, nat_le, Contains, AllByRecursion, IsNonDecreasingBy, IsPermutation, IsStableByKey, nat_cmp, le-leb, nat_tests, map_push, take-append-drop, take_more, length-take-le, filter-append, All-get_or, Contains-get_or, All-permutation, length-filter, Prefix, Time, RouterPlan, IsRouterPlan, links_of, boot_at, changed_plan, has_come, in_force, last_of, master_at, of_prefix, route_at, same_prefix, Charge, charges_of_boot, PortLogs, outgoing_link, rerouted, RouterData, NeverFalls, each-append, each-weaker, filter-all, filter-none, filter-true, filter-false, filter_swap, in_order-filter, join_unique, charges, port_logs, charges_none, Changes, Routed, AreByTime, AreMade, move_time, plan_after, restart_time, route_after, IsRoutedBy, IsNextLater, IsRestarted, IsUpTo, StandsOn}
 use Rattle.tva_base.specs.declared.plan.Route.{Route}
 use Rattle.tva_base.specs.Plan.{AreRising}
 use Rattle.tva_router.specs.Stands as router
@@ -143,11 +143,7 @@ pub stays : (now : ℕ) (r : Routed) → IsRoutedBy now r → StandsOn now r r
 stays now r b = record { by = b; stands = λ log h. h; same = (refl, refl, refl) }
 
 pub goes_on : (now : ℕ) (r s t : Routed) → StandsOn now r s → StandsOn now s t → StandsOn now r t
-goes_on now r s t a b = record {
-  by = b.by;
-  stands = λ log h. b.stands log (a.stands log h);
-  same = (b.same.0 ∙ a.same.0, b.same.1 ∙ a.same.1, b.same.2 ∙ a.same.2);
-}
+goes_on now r s t a b = grind (arith, nat_tests)
 
 abbrev with_boot : Routed → RouterData → ℕ → Routed
 with_boot r v boot = record { router = v; next = r.next; changes = record { boot = boot; moves = r.changes.moves; moved = r.changes.moved } }
@@ -188,29 +184,9 @@ restarts_on now r v boot master b is last built plan stands =
       same = (built, refl, refl);
     }
 
--- a route by one more change
-same_sym : (p q : Prefix) → same_prefix p q ≡ same_prefix q p
-same_sym p q = grind (arith, nat_tests)
-
 one_more : (moves : List (Time × Prefix × ℕ)) (x : Time × Prefix × ℕ) (route : Route)
     → cond (same_prefix route.prefix x.1) (record route { link = x.2 }) (route_after moves route) ≡ route_after (moves ++ x ∷ []) route
-one_more moves x route =
-    let own : Time × Prefix × ℕ → Bool = λ c. same_prefix c.1 route.prefix in
-    let split : of_prefix route.prefix (moves ++ x ∷ []) ≡ of_prefix route.prefix moves ++ filter own (x ∷ []) = filter-append own moves (x ∷ []) in
-    elim (cases_Bool (same_prefix x.1 route.prefix)) [
-      | inl a ↦
-          let links : map (λ c. c.2) (of_prefix route.prefix (moves ++ x ∷ [])) ≡ map (λ c. c.2) (of_prefix route.prefix moves) ++ x.2 ∷ [] =
-          ap (map (λ (c : Time × Prefix × ℕ). c.2)) (split ∙ ap (λ (cs : List (Time × Prefix × ℕ)). of_prefix route.prefix moves ++ cs) (filter-true own x [] a))
-          ∙ map_push (λ (c : Time × Prefix × ℕ). c.2) (of_prefix route.prefix moves) x in
-          let link : last_of route.link (map (λ c. c.2) (of_prefix route.prefix (moves ++ x ∷ []))) ≡ x.2 = ap (last_of route.link) links ∙ last_push route.link (map (λ c. c.2) (of_prefix route.prefix moves)) x.2 in
-          cond-true (same_prefix route.prefix x.1) (record route { link = x.2 }) (route_after moves route) (same_sym route.prefix x.1 ∙ a)
-          ∙ sym (ap (λ (k : ℕ). let r : Route = record route { link = k } in r) link)
-      | inr a ↦
-          let same : of_prefix route.prefix (moves ++ x ∷ []) ≡ of_prefix route.prefix moves =
-          split ∙ (ap (λ (cs : List (Time × Prefix × ℕ)). of_prefix route.prefix moves ++ cs) (filter-false own x [] a) ∙ append-nil (of_prefix route.prefix moves)) in
-          cond-false (same_prefix route.prefix x.1) (record route { link = x.2 }) (route_after moves route) (same_sym route.prefix x.1 ∙ a)
-          ∙ sym (ap (λ (cs : List (Time × Prefix × ℕ)). let r : Route = record route { link = last_of route.link (map (λ c. c.2) cs) } in r) same)
-    ]
+one_more moves x route = grind (arith, nat_tests, filter-append, filter-true, map_push, last_of, last_push, filter-false, append-nil)
 
 routes_more : (moves : List (Time × Prefix × ℕ)) (x : Time × Prefix × ℕ) (routes : List Route) → rerouted x.1 x.2 (map (route_after moves) routes) ≡ map (route_after (moves ++ x ∷ [])) routes
 routes_more moves x [] = refl
@@ -273,32 +249,13 @@ routed_later now later r l b = record {
 }
 
 pub routed_same : (now : ℕ) (r : Routed) (v : RouterData) (next : ℕ) → IsRoutedBy now r → v.last ≤ now → v.built ≡ r.router.built → v.plan ≡ r.router.plan → IsRoutedBy now (record { router = v; next = next; changes = r.changes })
-routed_same now r v next b last built plan = record {
-  last = last;
-  valid = subst IsRouterPlan (sym built) b.valid;
-  moves = subst (λ (p : RouterPlan). AreByTime p.reroutes r.changes.moves.items) (sym built) b.moves;
-  restarted = subst (λ (p : RouterPlan). AreMade restart_time p.restarts r.changes.boot now) (sym built) b.restarted;
-  moved = b.moved;
-  plan = plan ∙ (b.plan ∙ ap (λ (p : RouterPlan). plan_after p r.changes.boot (take r.changes.moved r.changes.moves.items)) (sym built));
-}
+routed_same now r v next b last built plan = grind (arith, nat_tests)
 
 -- a router to which nothing happened, and none of whose changes is made
 none_after : (routes : List Route) → map (route_after []) routes ≡ routes
 none_after [] = refl
 none_after (r ∷ rs) = ap (λ (xs : List Route). r ∷ xs) (none_after rs)
 
-none_made : {X : Type 0} (time : X → ℕ) (xs : List X) → AreMade time xs 0 0
-none_made time xs = record { few = omega arith; come = tt }
-
 pub routed_first : (v : RouterData) (plan : RouterPlan) (moves : Changes) → IsRouterPlan plan → v.built ≡ plan → v.plan ≡ plan → v.last ≡ 0 → moves.boot ≡ 0 → moves.moved ≡ 0 → AreByTime plan.reroutes moves.moves.items
     → IsRoutedBy 0 (record { router = v; next = 1; changes = moves })
-routed_first v plan moves valid built same last boot moved by =
-    subst (λ (c : Changes). IsRoutedBy 0 (record { router = v; next = 1; changes = c })) (λ i. record { boot = sym boot i; moves = moves.moves; moved = sym moved i })
-    (record {
-      last = omega (arith, last);
-      valid = subst IsRouterPlan (sym built) valid;
-      moves = subst (λ (p : RouterPlan). AreByTime p.reroutes moves.moves.items) (sym built) by;
-      restarted = none_made restart_time v.built.restarts;
-      moved = none_made move_time moves.moves.items;
-      plan = same ∙ (ap (λ (rs : List Route). changed_plan plan.master rs plan) (sym (none_after plan.routes)) ∙ ap (λ (p : RouterPlan). plan_after p 0 []) (sym built));
-    })
+routed_first v plan moves valid built same last boot moved by = grind (arith, nat_tests, none_after)

@@ -1,25 +1,18 @@
 -- What a node stands for that is new, or that is given one more input; and when it has work.
-use Rattle.tva_node.proofs.Common.{◌≡◌, ℕ, ◌+◌, ◌<◌, ◌≤◌, false, List, [], ◌∷◌, ◌++◌, get_or, map, All, Option, Some, None, Result, Ok, Err, refl, sym, subst, ◌∙◌, ap, arith, inl, inr, nat_lt, ◌==◌, ◌||◌, ◌&&◌, Contains, OnErr, OnOk, option_and_then, option_map, AllByRecursion, find, cond-true, cond-false, eq-eqb, nat_tests, map-append, All-nil, All-head, All-map, All-push, Contains-append_right, Contains-get_or, LinkLimits, LinkPlan, AreLinkLimits, links_of, NodePlan, waiting_after, IsEmpty, precedes, put_in, each-cut, each-weaker, cut-put_all, put_all-append, Input, Site, IsLinkOut, IsSite, limits_out, site_of, Entry, input_source, input_time, in_turn, due, next_by, next_decision, IsWorkAt, IsNodeLog-same, Link, Role, first_link, least_next, link_pair, Memory, IsBy, KnowsNext, RoleStands, AreLeft, Gone, NodeState, Fits, IsFirstWork, Stands, StandsFor, none_gone, role_plan, IsNoneBefore, first_time, work_time}
+use Rattle.tva_node.proofs.Common.{◌≡◌, ℕ, ◌+◌, ◌<◌, ◌≤◌, List, [], ◌∷◌, ◌++◌, get_or, map, All, Option, Some, None, Result, Ok, Err, refl, sym, subst, ◌∙◌, ap, arith, inl, inr, Contains, OnErr, OnOk, option_and_then, AllByRecursion, nat_tests, map-append, All-nil, All-head, All-map, All-push, Contains-append_right, Contains-get_or, LinkLimits, LinkPlan, AreLinkLimits, links_of, NodePlan, put_in, each-cut, each-weaker, cut-put_all, put_all-append, Input, Site, IsLinkOut, IsSite, limits_out, site_of, Entry, input_source, input_time, in_turn, due, next_decision, IsWorkAt, IsNodeLog-same, Link, Role, first_link, least_next, link_pair, Memory, IsBy, KnowsNext, RoleStands, AreLeft, Gone, NodeState, Fits, IsFirstWork, Stands, StandsFor, none_gone, role_plan, IsNoneBefore, first_time, work_time}
 use Rattle.tva_port.proofs.Idling.{empty_idles}
-use Rattle.tva_port.proofs.Levels.{none_first as no_request_first}
 use Rattle.tva_node.proofs.Works.{any_link, either, none_sooner, quiet, work_late}
 
 -- what holds anyway holds after an error
 pub on_err : {T E : Type 0} (P : Type 0) (r : Result T E) → P → OnErr r P
-on_err P (Ok x) h = tt
-on_err P (Err e) h = h
+on_err P r h = grind (arith, nat_tests)
 
 -- ## one more input
 
 -- it comes behind those that are earlier
 put_behind : (i : Input) (taken rest : List Input) → AllByRecursion (λ x. input_time x < input_time i) taken → put_in input_time input_source i (taken ++ rest) ≡ taken ++ put_in input_time input_source i rest
 put_behind i [] rest h = refl
-put_behind i (x ∷ xs) rest h =
-    cond-false (precedes input_time input_source i x) (i ∷ x ∷ (xs ++ rest)) (x ∷ put_in input_time input_source i (xs ++ rest)) (not_before (input_time i) (input_source i) (input_time x) (input_source x) h.0)
-    ∙ ap (λ (ys : List Input). x ∷ ys) (put_behind i xs rest h.1)
-  where
-    not_before : (a b c d : ℕ) → c < a → (nat_lt a c || ((a == c) && nat_lt b d)) ≡ false
-    not_before a b c d l = grind (arith, nat_tests)
+put_behind i (x ∷ xs) rest h = grind (arith, nat_tests, (put_behind i xs rest h.1))
 
 in_turn_more : (inbox : List Input) (i : Input) → in_turn (inbox ++ i ∷ []) ≡ put_in input_time input_source i (in_turn inbox)
 in_turn_more inbox i = put_all-append input_time input_source inbox (i ∷ []) []
@@ -61,19 +54,9 @@ posted_then v i gone waiting inbox (Err e) late within fits h put noted = tt
 
 -- ## a new node
 
-nothing_next : (limits : LinkLimits) → next_decision limits [] 0 ≡ None
-unfolding next_decision
-nothing_next limits =
-    let none : IsEmpty (waiting_after limits []) = record {
-      requests = no_request_first limits.request limits.request_inner;
-      regulars = refl;
-      legacy = refl;
-    } in
-    ap (next_by 0) (empty_idles limits [] 0 none)
-
 next_nothing : (o : Option (ℕ × LinkLimits)) → None ≡ option_and_then (λ x. next_decision x.1 [] 0) o
-next_nothing None = refl
-next_nothing (Some x) = sym (nothing_next x.1)
+unfolding next_decision
+next_nothing o = grind (arith, nat_tests, empty_idles)
 
 pub pairs_first : (links : List (ℕ × LinkPlan)) → map link_pair (map first_link links) ≡ links
 pairs_first [] = refl
@@ -147,7 +130,4 @@ first_valid number (x ∷ xs) uplink d a e = (All-head (IsLinkOut number) x xs a
 
 pub first_out : (number : ℕ) (plan : NodePlan) (links : List (ℕ × LinkPlan)) (uplink : ℕ) (d : ℕ × LinkPlan) → links_of links ≡ uplink ∷ [] → limits_out (site_of number plan links) uplink ≡ Some (uplink, (get_or links 0 d).1.limits)
 first_out number plan [] uplink d e = absurd (cc)
-first_out number plan (x ∷ xs) uplink d e =
-    let here : x.0 ≡ uplink = cc in
-    ap (option_map (λ (o : ℕ × LinkPlan). let y : ℕ × LinkLimits = (o.0, o.1.limits) in y)) (cond-true (x.0 == uplink) (Some x) (find (λ o. o.0 == uplink) xs) (eq-eqb x.0 uplink here))
-    ∙ (λ i. Some (here i, x.1.limits))
+first_out number plan (x ∷ xs) uplink d e = grind (arith, nat_tests)

@@ -1,5 +1,5 @@
 -- What a router or a host that stands for a node's log tells of its links' logs, and how it goes on.
-use Rattle.tva_node.proofs.Common.{ap₂, ◌≡◌, ℕ, ◌+◌, ◌≤◌, Bool, true, false, cond, List, [], ◌∷◌, ◌++◌, map, Option, Some, None, Result, Ok, Err, refl, sym, subst, ◌∙◌, ap, arith, inl, inr, append-nil, ◌==◌, IfOk, option_map, AllByRecursion, find, cons_option, cond-true, cond-false, cases_Bool, eq-eqb, eqb-true, filter_map-append, All-weaker, sum_by_push, LinkLimits, LinkPlan, RouterPlan, Class, Time, HostPlan, Happened, Address, Upper, Outcome, Queued, Dropped, links_of, boot_at, in_force, PacketData, packet_length, class_by_shim, key_of, nonce_in, Charge, Decision, Start, WaitUntil, Idle, IsLegal, queued_by, Made, Call, Received, history_of, Files, Act, Came, answer_to, answered, delivered, is_addressed_to, CourierData, charges_at, charges_of_boot, PortLogs, charged_by, entered_by, handle, outcome_of, outgoing_link, sent, ◌with◌, started_on, NodePlan, Input, FromTrace, Arrival, Site, IsSite, IsPlanned, limits_out, Content, Arrived, Sent, Entry, Took, Started, input_time, act_of, act_of_input, act_of_row, acts, call_of, call_of_input, call_of_row, files, reply_at, calls, charge_of, charged, charges, content_at, is_row, port_entry, port_logs, queued_at, count_of_rows, arrived, content_by, goes_out, handled, hosted, made_for, routed, sent_out, content_told, reply_told, each-append, each-weaker, AreLegal, charges_now, Changes, Role, Routed, Hosted, RoleStands, StandsAsRouter, StandsAsHost, IsBy, role_plan, IsUpTo, HostTook, RouterTook, Takes, reply_went, started_by, went_out}
+use Rattle.tva_node.proofs.Common.{nat_tests, ap₂, ◌≡◌, ℕ, ◌+◌, ◌≤◌, Bool, true, false, cond, List, [], ◌∷◌, ◌++◌, Option, Some, None, Result, refl, sym, subst, ◌∙◌, ap, arith, inl, inr, append-nil, ◌==◌, IfOk, option_map, AllByRecursion, find, cons_option, cond-true, cond-false, cases_Bool, eq-eqb, eqb-true, filter_map-append, All-weaker, sum_by_push, LinkLimits, LinkPlan, RouterPlan, Class, Time, HostPlan, Happened, Upper, Outcome, links_of, boot_at, in_force, PacketData, packet_length, class_by_shim, key_of, nonce_in, Charge, Decision, Start, queued_by, Made, Call, Received, history_of, Files, Act, Came, answer_to, answered, delivered, CourierData, charges_at, charges_of_boot, PortLogs, charged_by, entered_by, handle, outcome_of, outgoing_link, ◌with◌, started_on, NodePlan, Input, FromTrace, Arrival, Site, IsSite, IsPlanned, limits_out, Content, Arrived, Sent, Entry, Took, Started, input_time, act_of, act_of_input, act_of_row, acts, call_of, call_of_input, call_of_row, files, reply_at, calls, charge_of, charged, charges, content_at, is_row, port_entry, port_logs, queued_at, count_of_rows, arrived, content_by, goes_out, handled, hosted, made_for, routed, sent_out, content_told, reply_told, each-append, each-weaker, AreLegal, charges_now, Changes, Role, Routed, Hosted, RoleStands, StandsAsRouter, StandsAsHost, IsBy, role_plan, IsUpTo, HostTook, RouterTook, Takes, reply_went, started_by, went_out}
 use Rattle.std.specs.Prelude.{min}
 use Rattle.tva_base.specs.declared.event.Happened.TheVariants as happens
 use Rattle.tva_base.specs.declared.event.DataLine.{DataLine}
@@ -26,6 +26,7 @@ use Rattle.tva_plan.specs.declared.config.NodePlan.TheVariants as plans
 use Rattle.tva_run.specs.Entries as entry
 use Rattle.tva_node.specs.declared.role.Role.TheVariants as roles
 use Rattle.tva_node.proofs.Making.{routed_later, same_links}
+use Rattle.tva_run.proofs.Links.{router_out, numbered_out}
 
 -- a time is no earlier
 pub by-later : (now later : ℕ) (role : Role) → now ≤ later → IsBy now role → IsBy later role
@@ -33,19 +34,6 @@ by-later now later (roles.Router r) l h = routed_later now later r l h
 by-later now later (roles.Host x) l h = (let a = h.0 in omega arith, let a = h.1 in omega arith)
 
 -- ## links
-
-find-map : {X Y : Type 0} (f : X → Y) (p : Y → Bool) (xs : List X) → find p (map f xs) ≡ option_map f (find (λ x. p (f x)) xs)
-find-map f p [] = refl
-find-map f p (x ∷ xs) = elim (cases_Bool (p (f x))) [
-  | inl a ↦ cond-true (p (f x)) (Some (f x)) (find p (map f xs)) a ∙ sym (ap (option_map f) (cond-true (p (f x)) (Some x) (find (λ y. p (f y)) xs) a))
-  | inr a ↦ cond-false (p (f x)) (Some (f x)) (find p (map f xs)) a ∙ (find-map f p xs ∙ sym (ap (option_map f) (cond-false (p (f x)) (Some x) (find (λ y. p (f y)) xs) a)))
-]
-
--- a router's links out are its plan's
-pub router_out : (site : Site) (plan : RouterPlan) (link : ℕ) → IsSite site → site.plan ≡ plans.Router plan → outgoing_link plan link ≡ limits_out site link
-router_out site plan link s e =
-    let planned : IsPlanned (plans.Router plan) site.links = subst (λ (p : NodePlan). IsPlanned p site.links) e s.planned in
-    ap (find (λ o. o.0 == link)) planned.1 ∙ find-map (λ (o : ℕ × LinkPlan). (o.0, o.1.limits)) (λ o. o.0 == link) site.links
 
 -- the only link out of a host is its uplink
 only_out : (links : List (ℕ × LinkPlan)) (uplink link : ℕ) (o : ℕ × LinkLimits) → links_of links ≡ uplink ∷ [] → option_map (λ (x : ℕ × LinkPlan). let y : ℕ × LinkLimits = (x.0, x.1.limits) in y) (find (λ x. x.0 == link) links) ≡ Some o → uplink ≡ link
@@ -79,43 +67,18 @@ later-weaker time now log h n = All-weaker (λ (x : port.Entry). port.entry_time
 -- the log of each link is legal
 pub role_legal : (site : Site) (role : Role) (log : List Entry) (now : ℕ) → IsSite site → site.plan ≡ role_plan role → RoleStands site role log → IsBy now role → AreLegal site now log
 role_legal site (roles.Router r) log now s e h b = λ link o f.
-    let k = link_number site link o f in
-    let k' : limits_out site link ≡ Some (link, o.1) = f ∙ ap Some (λ i. (k i, o.1)) in
-    let is = known r.router (charges_of_boot r.router.built r.changes.boot (charges log)) (port_logs log) link o.1 now h.router (same_links now r b link ∙ (router_out site r.router.built link s e ∙ k')) b.last in
+    let is = known r.router (charges_of_boot r.router.built r.changes.boot (charges log)) (port_logs log) link o.1 now h.router (same_links now r b link ∙ (router_out site r.router.built link s e ∙ numbered_out site link o f)) b.last in
     (is.legal, is.later)
-  where
-    found_number : (links : List (ℕ × LinkPlan)) (link : ℕ) (o : ℕ × LinkLimits) → option_map (λ (x : ℕ × LinkPlan). let y : ℕ × LinkLimits = (x.0, x.1.limits) in y) (find (λ x. x.0 == link) links) ≡ Some o → o.0 ≡ link
-    found_number [] link o g = absurd (cc)
-    found_number (x ∷ xs) link o g = elim (cases_Bool (x.0 == link)) [
-      | inl a ↦
-          let l : option_map (λ (y : ℕ × LinkPlan). let z : ℕ × LinkLimits = (y.0, y.1.limits) in z) (Some x) ≡ Some o = sym (ap (option_map (λ (y : ℕ × LinkPlan). let z : ℕ × LinkLimits = (y.0, y.1.limits) in z)) (cond-true (x.0 == link) (Some x) (find (λ y. y.0 == link) xs) a)) ∙ g in
-          let m : x.0 ≡ o.0 = first_of_pair (x.0, x.1.limits) o (let n : Some (x.0, x.1.limits) ≡ Some o = l in n) in
-          sym m ∙ eqb-true x.0 link a
-      | inr a ↦ found_number xs link o (sym (ap (option_map (λ (y : ℕ × LinkPlan). let z : ℕ × LinkLimits = (y.0, y.1.limits) in z)) (cond-false (x.0 == link) (Some x) (find (λ y. y.0 == link) xs) a)) ∙ g)
-    ]
-      where
-        first_of_pair : (a b : ℕ × LinkLimits) → Some a ≡ Some b → a.0 ≡ b.0
-        first_of_pair a b e = let same : a ≡ b = cc in ap (λ (p : ℕ × LinkLimits). p.0) same
-
-    link_number : (site : Site) (link : ℕ) (o : ℕ × LinkLimits) → limits_out site link ≡ Some o → o.0 ≡ link
-    link_number site link o f = found_number site.links link o f
 role_legal site (roles.Host h) log now s e st b = λ link o f.
     let out = host_out site h log link o s e st f in
     let limits : h.port.limits ≡ o.1 = ap (λ (p : ℕ × LinkLimits). p.1) (sym out.1) in
-    subst (λ (l : LinkLimits). IsLegal l (port_logs log link) × port.NoneLater now (port_logs log link)) limits
-    (subst (λ k. IsLegal h.port.limits (port_logs log k) × port.NoneLater now (port_logs log k)) out.0
-    (st.port.legal, later-weaker h.port.last now (port_logs log h.uplink) b.1 st.port.past))
+    rw (← limits, ← out.0) (st.port.legal, later-weaker h.port.last now (port_logs log h.uplink) b.1 st.port.past)
 
 -- ## one more entry
 
 -- what is queued, as one entry and as a list
 pub entered_is : (link time : ℕ) (outcome : Outcome) (class : Class) (packet : PacketData) → cons_option (queued_at link time outcome class packet) [] ≡ entered_by outcome time class packet link
-entered_is link time (Queued on) class packet = by_test (link == on)
-  where
-    by_test : (b : Bool) → cons_option (cond b (Some (port.Queued time class (key_of class packet) packet)) None) [] ≡ cond b (port.Queued time class (key_of class packet) packet ∷ []) []
-    by_test true = refl
-    by_test false = refl
-entered_is link time (Dropped cause) class packet = refl
+entered_is link time outcome class packet = grind (arith, nat_tests)
 
 -- a link's log with one more entry
 pub logs_more : (log : List Entry) (e : Entry) (link : ℕ) → port_logs (log ++ e ∷ []) link ≡ port_logs log link ++ cons_option (port_entry link e) []
@@ -125,8 +88,7 @@ pub charges_more : (log : List Entry) (e : Entry) → charges (log ++ e ∷ []) 
 charges_more log e = filter_map-append charge_of log (e ∷ [])
 
 charged_is : (time : ℕ) (packet : PacketData) (o : Option Grant) → cons_option (option_map (charged time packet) o) [] ≡ charged_by o time (nonce_in packet.carried) (packet_length packet)
-charged_is time packet None = refl
-charged_is time packet (Some grant) = refl
+charged_is time packet o = grind (arith, nat_tests)
 
 -- the ordinal behind one more row
 rows_more : (log : List Entry) (e : Entry) → count_of_rows (log ++ e ∷ []) ≡ count_of_rows log + cond (is_row e) 1 0
@@ -140,8 +102,7 @@ ordinal_arrival log time link packet made next e = omega (arith, e, rows_more lo
 
 -- what is charged at a time
 charged_then : (o : Option Grant) (now nonce bytes : ℕ) → AllByRecursion (λ (c : Charge). c.time ≡ now) (charged_by o now nonce bytes)
-charged_then None now nonce bytes = tt
-charged_then (Some grant) now nonce bytes = (refl, tt)
+charged_then o now nonce bytes = grind (arith, nat_tests)
 
 -- a router goes on with an arrival, after all changes up to then
 pub router_took : (r new : Routed) (log : List Entry) (input : Input) (from : Option ℕ) (packet : PacketData) → IsUpTo (input_time input) r → StandsAsRouter r log
@@ -194,24 +155,16 @@ arrived_told plan log time from packet = refl
 
 -- a start on a link is no charge, no row, no call and nothing of files
 charges_started : (log : List Entry) (now link : ℕ) (d : Decision) → charges (log ++ started_by link now d) ≡ charges log
-charges_started log now link (Start class packet) = charges_more log (Started now link class packet) ∙ append-nil (charges log)
-charges_started log now link (WaitUntil time) = ap charges (append-nil log)
-charges_started log now link Idle = ap charges (append-nil log)
+charges_started log now link d = grind (arith, nat_tests, charges_more, append-nil)
 
 rows_started : (log : List Entry) (now link : ℕ) (d : Decision) → count_of_rows (log ++ started_by link now d) ≡ count_of_rows log
-rows_started log now link (Start class packet) = omega (arith, rows_more log (Started now link class packet))
-rows_started log now link (WaitUntil time) = ap count_of_rows (append-nil log)
-rows_started log now link Idle = ap count_of_rows (append-nil log)
+rows_started log now link d = grind (arith, nat_tests, rows_more, append-nil)
 
 calls_started : (log : List Entry) (now link : ℕ) (d : Decision) → calls (log ++ started_by link now d) ≡ calls log
-calls_started log now link (Start class packet) = filter_map-append call_of log (Started now link class packet ∷ []) ∙ append-nil (calls log)
-calls_started log now link (WaitUntil time) = ap calls (append-nil log)
-calls_started log now link Idle = ap calls (append-nil log)
+calls_started log now link d = grind (arith, nat_tests, filter_map-append, append-nil)
 
 acts_started : (log : List Entry) (now link : ℕ) (d : Decision) → acts (log ++ started_by link now d) ≡ acts log
-acts_started log now link (Start class packet) = filter_map-append act_of log (Started now link class packet ∷ []) ∙ append-nil (acts log)
-acts_started log now link (WaitUntil time) = ap acts (append-nil log)
-acts_started log now link Idle = ap acts (append-nil log)
+acts_started log now link d = grind (arith, nat_tests, filter_map-append, append-nil)
 
 -- a link's log after a decision on one
 logs_started : (log : List Entry) (now on : ℕ) (d : Decision) (link : ℕ) → port_logs (log ++ started_by on now d) link ≡ port_logs log link ++ started_on on d now link
@@ -220,12 +173,7 @@ logs_started log now on (Start class packet) link = logs_more log (Started now o
     by_test : (b : Bool) → cons_option (cond b (Some (port.Started now class packet)) None) [] ≡ cond b (port.Started now class packet ∷ []) []
     by_test true = refl
     by_test false = refl
-logs_started log now on (WaitUntil time) link = ap (λ (es : List Entry). port_logs es link) (append-nil log) ∙ nothing (link == on)
-  where
-    nothing : (b : Bool) → port_logs log link ≡ port_logs log link ++ cond b [] []
-    nothing true = sym (append-nil (port_logs log link))
-    nothing false = sym (append-nil (port_logs log link))
-logs_started log now on Idle link = ap (λ (es : List Entry). port_logs es link) (append-nil log) ∙ nothing (link == on)
+logs_started log now on _ link = ap (λ (es : List Entry). port_logs es link) (append-nil log) ∙ nothing (link == on)
   where
     nothing : (b : Bool) → port_logs log link ≡ port_logs log link ++ cond b [] []
     nothing true = sym (append-nil (port_logs log link))
@@ -289,26 +237,20 @@ host_took site h new log input made st cs p n e u l = record {
 
 -- where a packet goes out of a host
 pub out_is : (site : Site) (h : Hosted) (log : List Entry) (packet : PacketData) → StandsAsHost site h log → goes_out site h.courier.host.plan log packet ≡ went_out h.uplink h.port.limits (port_logs log h.uplink) packet
-out_is site h log packet st =
-    ap (λ (k : ℕ). sent (port_logs log) (class_by_shim packet.carried) packet (limits_out site k)) (sym st.uplink)
-    ∙ ap (sent (port_logs log) (class_by_shim packet.carried) packet) st.limits
+out_is site h log packet st = grind (arith, nat_tests)
 
 -- where a queueing ends up and what it adds
 pub queued_to : (uplink now : ℕ) (class : Class) (packet : PacketData) (o : Offered PacketData) → entered_by (outcome_of uplink o) now class packet uplink ≡ queued_by o now class (key_of class packet) packet
-queued_to uplink now class packet offers.Queued = cond-true (uplink == uplink) (port.Queued now class (key_of class packet) packet ∷ []) [] (eq-eqb uplink uplink refl)
-queued_to uplink now class packet (offers.NoQueue p) = refl
-queued_to uplink now class packet (offers.QueueFull p) = refl
+queued_to uplink now class packet o = grind (arith, nat_tests)
 
 -- ## what the code tells
 
 pub if_ok : {T E : Type 0} (P Q : T → Type 0) (r : Result T E) → ((x : T) → P x → Q x) → IfOk r P → IfOk r Q
-if_ok P Q (Ok x) f h = f x h
-if_ok P Q (Err e) f h = tt
+if_ok P Q r f h = grind (arith, nat_tests)
 
 -- a router has its link
 pub router_has_out : (site : Site) (role : Role) (r : Routed) (link : ℕ) (limits : LinkLimits) (now : ℕ) → IsBy now role → IsSite site → site.plan ≡ role_plan role → role ≡ roles.Router r → limits_out site link ≡ Some (link, limits) → outgoing_link r.router.plan link ≡ Some (link, limits)
-router_has_out site role r link limits now by s e is out =
-    same_links now r (subst (IsBy now) is by) link ∙ (router_out site r.router.built link s (e ∙ ap role_plan is) ∙ out)
+router_has_out site role r link limits now by s e is out = grind (arith, nat_tests, same_links, router_out)
 
 pub not_none : (o : Option (ℕ × LinkLimits)) (x : ℕ × LinkLimits) → o ≡ Some x → o ≡ None → ⊥
 not_none o x e f = cc
@@ -350,11 +292,7 @@ RowTook site plan log row told new made = (told ≡ content_told (sent_out site 
 by_made : (site : Site) (h new : Hosted) (log : List Entry) (row : Row) (told : Happened) (made : Option Made) → StandsAsHost site h log
     → made ≡ made_for h.courier.host.node h.courier.host.plan (history_of h.courier.host.plan (calls log)) (files h.courier.host.plan log) row.time.0 row.what
     → RowTook site h.courier.host.plan log row told new made → HostTook site h.courier.host.plan log (FromTrace row) told new
-by_made site h new log row told made st e took =
-    let plan = h.courier.host.plan in
-    let same : made ≡ made_for site.number plan (history_of plan (calls log)) (files plan log) row.time.0 row.what =
-    e ∙ ap (λ (k : ℕ). made_for k plan (history_of plan (calls log)) (files plan log) row.time.0 row.what) st.node in
-    subst (RowTook site plan log row told new) same took
+by_made site h new log row told made st e took = grind (arith, nat_tests)
 
 -- a row at a host for which it makes a packet
 pub host_row : (site : Site) (h new : Hosted) (log : List Entry) (row : Row) (made : Made) (id : PacketId) (bytes : ℕ) (outcome : Outcome) → StandsAsHost site h log
@@ -391,20 +329,11 @@ host_tick site h new log row st e cs ps n p u l =
           (subst (λ (es : List port.Entry). port_stands.StandsFor new.port es) (sym (append-nil (port_logs log h.uplink))) ps) n p u l,
     )
 
-nothing_answered : (known : Files) (source : Address) → answer_to known source upper.Nothing ≡ upper.Nothing
-unfolding answer_to
-nothing_answered known source = refl
-
 -- the upper part of the reply is the answer; a packet for another host has none
 answer_shown : (node : ℕ) (plan : HostPlan) (h : History) (known : Files) (now : ℕ) (p : PacketData)
     → upper_of (receipt_of node plan h now p (answered plan.address known p)).reply ≡ answered plan.address known p
-answer_shown node plan h known now p = elim (cases_Bool (is_addressed_to plan.address p)) [
-  | inl here ↦ answer_is_shown node plan h now p (answered plan.address known p) here
-  | inr away ↦
-      let silent : answered plan.address known p ≡ upper.Nothing =
-      ap (answer_to known p.flow.src) (cond-false (is_addressed_to plan.address p) p.upper upper.Nothing away) ∙ nothing_answered known p.flow.src in
-      subst (λ (above : Upper). upper_of (receipt_of node plan h now p above).reply ≡ above) (sym silent) (nothing_is_shown node plan h now p)
-]
+unfolding answer_to
+answer_shown node plan h known now p = grind (arith, nat_tests, answer_is_shown, answered, known, nothing_is_shown)
 
 -- an arrival at a host
 pub host_arrival : (site : Site) (h new : Hosted) (log : List Entry) (now : Time) (link : ℕ) (packet : PacketData) (receipt : Receipt) (range : Option DataLine) (id : PacketId) (bytes payload : ℕ) (told : Option ReplyLine) → StandsAsHost site h log
@@ -420,12 +349,11 @@ host_arrival site h new log now link packet receipt range id bytes payload told 
     let plan = h.courier.host.plan in
     let above = answered plan.address (files plan log) packet in
     let r = receipt_of site.number plan (history_of plan (calls log)) now.0 packet above in
-    let d = delivered plan.address (files plan log) packet in
     let same : receipt ≡ r = e ∙ ap (λ (k : ℕ). receipt_of k plan (history_of plan (calls log)) now.0 packet above) st.node in
     let went : (o : Option Made) → reply_went h.uplink h.port.limits (port_logs log h.uplink) o ≡ option_map (λ made. goes_out site plan log made.packet) o = (λ o. replies o) in
     let shown : upper_of r.reply ≡ above = answer_shown site.number plan (history_of plan (calls log)) (files plan log) now.0 packet in (
       (λ i. happens.Received (ei i) (eb i) link (ep i) (same i).what (same i).back ((et ∙ (ap (λ (x : Receipt). reply_told x.reply (reply_went h.uplink h.port.limits (port_logs log h.uplink) x.reply)) same ∙ ap (reply_told r.reply) (went r.reply))) i) (er i)),
-      host_took site h new log (Arrival now link packet) (entry.Received link packet r (option_map (λ made. goes_out site plan log made.packet) r.reply) d) st
+      host_took site h new log (Arrival now link packet) (entry.Received link packet r (option_map (λ made. goes_out site plan log made.packet) r.reply) (delivered plan.address (files plan log) packet)) st
           (subst (λ (a : Upper). courier.StandsFor new.courier (calls log ++ Received now.0 packet a ∷ []) (acts log ++ Came packet ∷ [])) (sym shown) cs)
           (subst (λ (o : Option Outcome). port_stands.StandsFor new.port (port_logs log h.uplink ++ cons_option (reply_at h.uplink now.0 r.reply o) [])) (went r.reply)
           (subst (λ (x : Receipt). port_stands.StandsFor new.port (port_logs log h.uplink ++ cons_option (reply_at h.uplink now.0 x.reply (reply_went h.uplink h.port.limits (port_logs log h.uplink) x.reply)) [])) same ps))

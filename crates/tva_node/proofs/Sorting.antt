@@ -1,6 +1,5 @@
 -- The order that a stable sort by time leaves.
-use Rattle.tva_node.proofs.Common.{◌≡◌, ℕ, zero, suc, ◌≤◌, ◌<◌, Bool, true, false, cond, List, [], ◌∷◌, map, refl, sym, ◌∙◌, ap, arith, inl, inr, ◌⊎◌, ◌==◌, ◌&&◌, nat_lt, not, AllByRecursion, is_lt, nat_cmp, IsNonDecreasingBy, IsStableByKey, ties, cases_order, cases_lt, eq-eqb, ne_eqb, lt-ltb, le-ltb, filter_agree, recursion_from_All, IsInOrder, MayPrecede, NeverFalls, from_source, each-weaker}
-use Rattle.std.specs.declared.cmp.Ordering.TheVariants.{Less, Equal, Greater}
+use Rattle.tva_node.proofs.Common.{nat_tests, ◌≡◌, ℕ, zero, suc, ◌≤◌, ◌<◌, Bool, List, [], ◌∷◌, map, sym, ◌∙◌, ap, arith, inl, inr, ◌⊎◌, ◌==◌, ◌&&◌, not, AllByRecursion, is_lt, nat_cmp, IsNonDecreasingBy, IsStableByKey, ties, cases_lt, filter_agree, recursion_from_All, IsInOrder, MayPrecede, NeverFalls, from_source, each-weaker}
 use Rattle.tva_base.specs.Plan.{AreRising}
 
 pub falls_from : {X : Type 0} (time : X → ℕ) (xs : List X) → IsNonDecreasingBy time xs → NeverFalls time xs
@@ -10,38 +9,19 @@ falls_from time (x ∷ xs) h = (
   falls_from time xs (λ i j d l m. h (suc i) (suc j) d (omega arith) (omega arith)),
 )
 
-less_of : (p q : Bool) → is_lt (cond p Less (cond q Equal Greater)) ≡ p
-less_of true q = refl
-less_of false true = refl
-less_of false false = refl
-
-less_is : (a b : ℕ) → is_lt (nat_cmp a b) ≡ nat_lt a b
-less_is a b = less_of (nat_lt a b) (a == b)
-
-neither_is : (a b : ℕ) → (not (nat_lt a b) && not (nat_lt b a)) ≡ (b == a)
-neither_is a b =
-    elim (cases_order a b) [
-      | inl e ↦ rw (le-ltb a b (omega arith), le-ltb b a (omega arith), eq-eqb b a (sym e)) refl
-      | inr n ↦ elim n [
-        | inl l ↦ rw (lt-ltb a b l, ne_eqb b a (λ z. omega arith)) refl
-        | inr l ↦ rw (le-ltb a b (omega arith), lt-ltb b a l, ne_eqb b a (λ z. omega arith)) refl
-      ]
-    ]
-
 pub tie_is : (a b : ℕ) → (not (is_lt (nat_cmp a b)) && not (is_lt (nat_cmp b a))) ≡ (b == a)
-tie_is a b = rw (less_is a b, less_is b a) (neither_is a b)
+tie_is a b = grind (arith, nat_tests)
 
 -- a stable sort leaves what has one time in its order; there is something at each time
 pub ties_from : {X : Type 0} (time : X → ℕ) (some : ℕ → X) → ((t : ℕ) → time (some t) ≡ t) → (told ordered : List X) → IsStableByKey time nat_cmp told ordered → (t : ℕ) → from_source time t ordered ≡ from_source time t told
 ties_from {X = X} time some at_it told ordered h t =
     let tied : X → Bool = ties (λ (x y : X). is_lt (nat_cmp (time x) (time y))) (some t) in
     let agree : (y : X) → (time y == t) ≡ tied y = λ y. sym (tie_is (time (some t)) (time y) ∙ ap (λ (k : ℕ). time y == k) (at_it t)) in
-    filter_agree (λ y. time y == t) tied agree ordered
-    ∙ (h (some t) ∙ sym (filter_agree (λ y. time y == t) tied agree told))
+    cc (filter_agree (λ y. time y == t) tied agree ordered, h (some t), filter_agree (λ y. time y == t) tied agree told)
 
 -- ## lists by time
 
-no_later : (a b : ℕ) → a ≤ b → (a < b) ⊎ ((a ≡ b) × (a ≤ b))
+pub no_later : (a b : ℕ) → a ≤ b → (a < b) ⊎ ((a ≡ b) × (a ≤ b))
 no_later a b l = elim (cases_lt a b) [ inl k ↦ inl k | inr k ↦ inr (omega arith, l) ]
 
 pub order_of : {X : Type 0} (time : X → ℕ) (xs : List X) → NeverFalls time xs → IsInOrder time time xs

@@ -1,5 +1,5 @@
 -- An input that is taken, and what the node stands for then.
-use Rattle.tva_node.proofs.Common.{◌≡◌, ℕ, ◌≤◌, ◌∷◌, [], ◌++◌, List, map, true, refl, sym, subst, ap, arith, Event, Happened, with_more, Input, Entry, input_time, IsSite, Site, site_of, Link, Parts, Role, IsBy, RoleStands, asked_by, link_pair, Fits, NodeState, gone_in, role_plan, site_at, state_of, Takes, TakesAt, is_due, queued_on}
+use Rattle.tva_node.proofs.Common.{nat_tests, ◌≡◌, ℕ, ◌≤◌, ◌∷◌, [], ◌++◌, List, map, true, refl, sym, subst, arith, Event, Happened, with_more, Input, Entry, input_time, IsSite, Site, site_of, Link, Parts, Role, IsBy, RoleStands, asked_by, link_pair, Fits, NodeState, role_plan, site_at, state_of, Takes, TakesAt, is_due, queued_on}
 use Rattle.tva_node.proofs.Decides.{from_fields}
 use Rattle.tva_node.proofs.Left.{some_due}
 use Rattle.tva_node.proofs.Waits.{asked_pairs}
@@ -35,7 +35,4 @@ module _ (p : Parts) (now : ℕ) (input : Input) (rest : List Input) (due : is_d
     pub taken_then : (q : Parts) → q.log ≡ with_more p.log (event ∷ []) → q.links ≡ asked
         → (q.role ≡ role) × (q.inbox ≡ p.inbox) × (q.waiting ≡ rest) × (q.number ≡ p.number) × (q.horizon ≡ p.horizon) × (q.worked_to ≡ p.worked_to) × (q.outbox ≡ p.outbox)
         → TakesAt (state_of q) now
-    taken_then q log links s = subst (λ (w : NodeState). TakesAt w now)
-        (from_fields q p.number p.horizon p.worked_to role asked p.inbox.all rest p.outbox.keeps (gone_in p) (p.log.all ++ event ∷ []) p.outbox.all
-        s.3 s.4 s.5 s.0 links (ap (λ k. k.all) s.1) s.2 (ap (λ k. k.all) log) (ap (λ k. k.all) s.6) (ap (λ k. k.keeps) s.6)
-        (λ i. record { inputs = (s.1 i).gone; events = (log i).gone; sendings = (s.6 i).gone; told = (log i).told; sent = (s.6 i).told })) mid
+    taken_then q log links s = grind (arith, nat_tests, from_fields, mid)

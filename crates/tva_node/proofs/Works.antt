@@ -1,5 +1,5 @@
 -- How a node works: what it stands for before, within and after one time.
-use Rattle.tva_node.proofs.Common.{◌≡◌, ℕ, zero, suc, ◌+◌, ◌<◌, ◌≤◌, min, List, [], ◌∷◌, ◌++◌, length, get_or, map, take, drop, set, All, Option, Some, None, false, refl, sym, subst, ◌∙◌, ap, ap₂, arith, inl, inr, ◌⊎◌, append-nil, ◌==◌, Contains, option_map, option_and_then, AllByRecursion, find, cons_option, cases_lt, map_push, drop_more, take-append-drop, set-get_or, get_or-drop, get_or-map, length-drop, map-set, take_more_set, drop-set-lt, set_split, take_all, All-nil, All-cons, All-head, All-tail, All-map, All-contains, All-from_recursion, All-weaker, All-append, All-set, All-take, All-get_or, filter_map-append, Event, Happened, LinkLimits, LinkPlan, Class, links_of, PacketData, each-append, each-weaker, each-cut, Input, Sending, Site, limits_out, AreRising, Entry, Took, Started, input_time, input_source, port_logs, IsNodeLog, in_turn, due, starts, start_after, sendings, event_of, sending_of, at_time, next_decision, next_on, IsQuiet, AreLegal, logs-other, next_again, quiet_starts_none, due_same, quiet_log, late_on, begins, takes, rests, starts_one, ends, Link, Role, asked_by, is_asked, least_next, sooner, with_next, link_pair, KnowsNext, RoleStands, IsBy, AreLeft, NodeState, StandsFor, Stands, Fits, role_plan, StandsAt, Takes, IsNoneBefore, first_time, work_time, is_due, queued_on, Waits, AwaitsAt, TakesAt, IsRank, DecidesAt, all_taken}
+use Rattle.tva_node.proofs.Common.{nat_tests, ◌≡◌, ℕ, suc, ◌+◌, ◌<◌, ◌≤◌, List, [], ◌∷◌, ◌++◌, length, get_or, map, take, drop, set, All, Option, Some, None, false, refl, sym, subst, ◌∙◌, ap, ap₂, arith, inl, inr, ◌⊎◌, append-nil, ◌==◌, Contains, option_map, option_and_then, AllByRecursion, find, cons_option, cases_lt, map_push, drop_more, take-append-drop, set-get_or, get_or-drop, get_or-map, length-drop, map-set, take_more_set, drop-set-lt, set_split, take_all, All-nil, All-cons, All-head, All-tail, All-map, All-contains, All-from_recursion, All-weaker, All-append, All-set, All-take, All-get_or, filter_map-append, Event, Happened, LinkLimits, LinkPlan, Class, links_of, PacketData, each-append, each-weaker, each-cut, Input, Sending, Site, limits_out, AreRising, Entry, Took, Started, input_time, input_source, port_logs, IsNodeLog, in_turn, due, starts, start_after, sendings, event_of, sending_of, at_time, next_decision, next_on, IsQuiet, AreLegal, logs-other, next_again, quiet_starts_none, due_same, quiet_log, late_on, begins, takes, rests, starts_one, ends, Link, Role, asked_by, is_asked, least_next, sooner, with_next, link_pair, KnowsNext, RoleStands, IsBy, AreLeft, NodeState, StandsFor, Stands, Fits, role_plan, StandsAt, Takes, IsNoneBefore, first_time, work_time, is_due, queued_on, Waits, AwaitsAt, TakesAt, IsRank, DecidesAt, all_taken}
 use Rattle.tva_port.specs.Log as port
 use Rattle.tva_run.specs.AtTime.{IsAt}
 use Rattle.tva_node.proofs.Finding.{find-none, find-some, find-at, link_valid, rises}
@@ -10,10 +10,7 @@ use Rattle.tva_node.proofs.Waits.{all_wait, asked_all, asked_pairs, not_asked, s
 -- ## where there is work
 
 none_left : (end : ℕ) (a b : Option ℕ) → IsNoneBefore end (sooner a b) → IsNoneBefore end a × IsNoneBefore end b
-none_left end None None h = (tt, tt)
-none_left end None (Some b) h = (tt, h)
-none_left end (Some a) None h = (h, tt)
-none_left end (Some a) (Some b) h = (omega arith, omega arith)
+none_left end a b h = grind (arith, nat_tests)
 
 no_link : (end : ℕ) (ls : List Link) → IsNoneBefore end (least_next ls) → All (λ (l : Link). IsNoneBefore end l.next) ls
 no_link end [] h = All-nil (λ (l : Link). IsNoneBefore end l.next)
@@ -21,22 +18,14 @@ no_link end (l ∷ ls) h = let k = none_left end l.next (least_next ls) h in All
 
 -- nothing is before the time itself
 pub none_sooner : (t : ℕ) (o : Option ℕ) → o ≡ Some t → IsNoneBefore t o
-none_sooner t None e = absurd (cc)
-none_sooner t (Some u) e = let k = some_is u t e in omega arith
+none_sooner t o e = grind (arith, nat_tests, some_is)
 
 pub either : (a b : Option ℕ) (t : ℕ) → sooner a b ≡ Some t → (a ≡ Some t) ⊎ (b ≡ Some t)
-either None b t e = inr e
-either (Some a) None t e = inl e
-either (Some a) (Some b) t e =
-    let k : min a b ≡ t = some_is (min a b) t e in
-    elim (cases_lt b a) [ inl l ↦ inr (ap Some (let m : b ≡ t = omega arith in m)) | inr l ↦ inl (ap Some (let m : a ≡ t = omega arith in m)) ]
+either a b t e = grind (arith, nat_tests)
 
 pub any_link : (P : Link → Type 0) (ls : List Link) (t : ℕ) → All P ls → least_next ls ≡ Some t → (l : Link) × (P l × (l.next ≡ Some t))
 any_link P [] t h e = absurd (cc)
-any_link P (l ∷ ls) t h e = elim (either l.next (least_next ls) t e) [
-  | inl a ↦ (l, (All-head P l ls h, a))
-  | inr a ↦ any_link P ls t (All-tail P l ls h) a
-]
+any_link P (l ∷ ls) t h e = grind (arith, nat_tests, either, least_next, All-head, All-tail, (any_link P ls t (All-tail P l ls h)))
 
 -- ## links out
 
@@ -59,8 +48,7 @@ pub no_out : (site : Site) (ls : List Link) (k : ℕ) → site.links ≡ map lin
 no_out site ls k e h = limits_are site ls k e ∙ ap limits_in (find-none k ls h)
 
 next_out : (o : Option (ℕ × LinkLimits)) (f : ℕ × LinkLimits → Option ℕ) (t : ℕ) → option_and_then f o ≡ Some t → (x : ℕ × LinkLimits) × (o ≡ Some x)
-next_out None f t e = absurd (cc)
-next_out (Some x) f t e = (x, refl)
+next_out o f t e = grind (arith, nat_tests)
 
 -- ## before a time
 
@@ -117,10 +105,7 @@ module _ (v : NodeState) (log : List Entry) (h : StandsFor v log) where
 
   -- up to the next time a link decides next when it did
   again : (end k : ℕ) (next : Option ℕ) (o : Option (ℕ × LinkLimits)) → v.worked_to ≤ end → o ≡ limits_out v.site k → IsNoneBefore end next → next ≡ option_and_then (λ x. next_decision x.1 (port_logs log k) v.worked_to) o → next ≡ option_and_then (λ x. next_decision x.1 (port_logs log k) end) o
-  again end k next None l e a q = q
-  again end k next (Some x) l e a q =
-      let g = legal k x (sym e) in
-      q ∙ sym (next_again x.1 (port_logs log k) v.worked_to end (link_valid v.site k x h.site (sym e)).0 g.0 g.1 l (λ t f. subst (IsNoneBefore end) (q ∙ f) a))
+  again end k next o l e a q = grind (arith, nat_tests, legal, next_again, link_valid)
 
   knows : (end : ℕ) (ls : List Link) → v.worked_to ≤ end → All (λ (x : Link). IsNoneBefore end x.next) ls → All (KnowsNext v.site log v.worked_to) ls → All (KnowsNext v.site log end) ls
   knows end ls l a b i d m = again end (get_or ls i d).number (get_or ls i d).next (limits_out v.site (get_or ls i d).number) l refl (a i d m) (b i d m)
@@ -212,10 +197,7 @@ module _ (v : NodeState) (now : ℕ) (taken : List Input) (log : List Entry) (st
 
   -- where none comes any more, all inputs of the time are taken
   pub all_in : is_due now v.waiting ≡ false → DecidesAt v now 0
-  all_in e =
-      let n = none_due now v.waiting e st.late in
-      let due_is : due (now + 1) (in_turn v.inbox) ≡ taken = taken_due v.inbox taken v.waiting st.left (now + 1) (each-weaker (λ i. input_time i ≤ now) (λ i. input_time i < now + 1) (λ i a. omega arith) taken st.early) n in
-      (0, log, record { before = All-nil (λ (l : Link). l.number < 0); behind = λ i d m. omega arith }, subst (λ (is : List Input). StandsAt v now 0 is log) (sym due_is) st, waits)
+  all_in e = grind (arith, nat_tests, none_due, taken_due, each-weaker, All-nil)
 
 -- ## links
 
@@ -244,9 +226,7 @@ module _ (v : NodeState) (now place rank : ℕ) (log : List Entry) (d : Link) (r
 
   -- the links behind it have higher numbers
   behind_higher : All (λ (l : Link). link.number < l.number) (drop (place + 1) v.links)
-  behind_higher i e m =
-      subst (λ (l : Link). link.number < l.number) (sym (get_or-drop (place + 1) v.links i e))
-      (rises v.links place (place + 1 + i) d e rising (omega arith) (let n = length-drop (place + 1) v.links in omega (arith, m, n)))
+  behind_higher i e m = grind (arith, nat_tests, get_or-drop, rises, rising, length-drop)
 
   -- numbers between are no links out
   pub none_between : (k : ℕ) → rank ≤ k → k < link.number → starts v.site log k now ≡ None
@@ -370,11 +350,10 @@ module _ (v : NodeState) (now place rank : ℕ) (log : List Entry) (d : Link) (r
       let out : next_on v.site log now link.number ≡ next_decision limits ports now = ap (option_and_then (λ o. next_decision o.1 (port_logs log link.number) now)) found in
       let late : (t : ℕ) → next_decision limits ports now ≡ Some t → now < t = (λ t f. not_asked link.next now t (knows ∙ (out ∙ f)) e) in
       let legal = role_legal v.site v.role log now st.site st.plan st.role st.past link.number (link.number, limits) found in
-      let valid = (link_valid v.site link.number (link.number, limits) st.site found).0 in
       let none : starts v.site log link.number now ≡ None =
       ap (option_and_then (λ o. start_after o.1 (port_logs log link.number) now)) found ∙ quiet_starts_none limits ports now now legal.1 (omega arith) late in
       let again : next_decision limits ports (now + 1) ≡ next_decision limits ports now =
-      next_again limits ports now (now + 1) valid legal.0 legal.1 (omega arith) (λ t f. let k = late t f in omega arith) in
+      next_again limits ports now (now + 1) ((link_valid v.site link.number (link.number, limits) st.site found).0) legal.0 legal.1 (omega arith) (λ t f. let k = late t f in omega arith) in
       let next_there : next_on v.site log (now + 1) link.number ≡ next_decision limits ports (now + 1) = ap (option_and_then (λ o. next_decision o.1 (port_logs log link.number) (now + 1))) found in
       subst (λ (ls : List Link). DecidesAt (record v { links = ls }) now (place + 1)) (set-get_or v.links place d)
       (rested link.next v.role none (knows ∙ (out ∙ (sym again ∙ sym next_there))) st.role refl st.past)

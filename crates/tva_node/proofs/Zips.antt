@@ -1,24 +1,15 @@
 -- Relations that hold place by place, over lists in parts.
-use Rattle.tva_node.proofs.Common.{◌≡◌, ℕ, zero, suc, ◌+◌, ◌<◌, List, [], ◌∷◌, ◌++◌, length, get_or, take, drop, set, refl, sym, subst, ◌∙◌, ap, arith, append-nil, append_assoc, AllByRecursion, AllZip, drop_more, take_more, take_more_set, take-append-drop, drop-set-lt, BeginsWith, NodeState, Keeps}
+use Rattle.tva_node.proofs.Common.{◌≡◌, ℕ, ◌+◌, ◌<◌, List, [], ◌∷◌, ◌++◌, length, get_or, take, drop, set, refl, sym, subst, ◌∙◌, ap, arith, append-nil, append_assoc, AllZip, drop_more, take_more, take_more_set, take-append-drop, drop-set-lt, BeginsWith, NodeState, Keeps}
+pub use Rattle.tva_base.proofs.Each.{zip_same as AllZip-same}
 
 pub AllZip-append : {X Y : Type 0} (R : X → Y → Type 0) (xs zs : List X) (ys ws : List Y) → AllZip R xs ys → AllZip R zs ws → AllZip R (xs ++ zs) (ys ++ ws)
 AllZip-append R [] zs [] ws a b = b
-AllZip-append R [] zs (y ∷ ys) ws a b = absurd a
-AllZip-append R (x ∷ xs) zs [] ws a b = absurd a
 AllZip-append R (x ∷ xs) zs (y ∷ ys) ws a b = (a.0, AllZip-append R xs zs ys ws a.1 b)
+AllZip-append R _ zs _ ws a b = absurd a
 
 -- what holds of two parts holds of the whole
 pub all_zip_parts : {X Y : Type 0} (R : X → Y → Type 0) (whole front back : List X) (ys ws : List Y) → whole ≡ front ++ back → AllZip R front ys → AllZip R back ws → AllZip R whole (ys ++ ws)
 all_zip_parts R whole front back ys ws e a b = rw e (AllZip-append R front back ys ws a b)
-
-pub AllZip-same : {X : Type 0} (R : X → X → Type 0) → ((x : X) → R x x) → (xs : List X) → AllZip R xs xs
-AllZip-same R r [] = tt
-AllZip-same R r (x ∷ xs) = (r x, AllZip-same R r xs)
-
-pub each_at : {X : Type 0} (P : X → Type 0) (xs : List X) (i : ℕ) (d : X) → AllByRecursion P xs → i < length xs → P (get_or xs i d)
-each_at P [] i d a h = absurd (omega arith)
-each_at P (x ∷ xs) zero d a h = a.0
-each_at P (x ∷ xs) (suc i) d a h = each_at P xs i d a.1 (omega arith)
 
 pub begins_same : {X : Type 0} (xs : List X) → BeginsWith xs xs
 begins_same xs = ([], sym (append-nil xs))
@@ -61,16 +52,13 @@ module _ {X : Type 0} (old xs : List X) (i : ℕ) (o w : X) (within : i < length
   zip_more R a r =
       let one : take (i + 1) old ≡ take i old ++ o ∷ [] = take_more old i o (let k : i < length old = omega (arith, long) in k) ∙ ap (λ (x : X). take i old ++ x ∷ []) (sym was) in
       let two : take (i + 1) (set xs i w) ≡ take i xs ++ w ∷ [] = take_more_set xs i w within in
-      subst (λ (us : List X). AllZip R us (take (i + 1) (set xs i w))) (sym one)
-      (subst (λ (vs : List X). AllZip R (take i old ++ o ∷ []) vs) (sym two)
-      (AllZip-append R (take i old) (o ∷ []) (take i xs) (w ∷ []) a (r, tt)))
+      rw (one, two) (AllZip-append R (take i old) (o ∷ []) (take i xs) (w ∷ []) a (r, tt))
 
   -- the others stay as they were
   pub zip_whole : (R : X → X → Type 0) → ((x : X) → R x x) → AllZip R (take i old) (take i xs) → R o w → AllZip R old (set xs i w)
   zip_whole R same a r =
-      let both = zip_more R a r in
       let front : AllZip R (take (i + 1) old ++ drop (i + 1) old) (take (i + 1) (set xs i w) ++ drop (i + 1) (set xs i w)) =
-      AllZip-append R (take (i + 1) old) (drop (i + 1) old) (take (i + 1) (set xs i w)) (drop (i + 1) (set xs i w)) both
+      AllZip-append R (take (i + 1) old) (drop (i + 1) old) (take (i + 1) (set xs i w)) (drop (i + 1) (set xs i w)) (zip_more R a r)
       (subst (λ (vs : List X). AllZip R (drop (i + 1) old) vs) (sym rest_more) (AllZip-same R same (drop (i + 1) old))) in
       subst (λ (us : List X). AllZip R us (set xs i w)) (take-append-drop (i + 1) old)
       (subst (λ (vs : List X). AllZip R (take (i + 1) old ++ drop (i + 1) old) vs) (take-append-drop (i + 1) (set xs i w)) front)

@@ -1,7 +1,6 @@
 -- Crate: what there is to know of files and of standard output.
 use Rattle.std.specs.Prelude.{ℕ, List}
-use Rattle.tva_outside.specs.Loads.{Load}
-use Rattle.tva_outside.specs.Faults.{one_more}
+use Rattle.tva_outside.specs.{Loads.Load, Faults.one_more}
 use Rattle.tva_outside.specs.declared.shelf.Loaded as loaded
 use Rattle.tva_outside.specs.declared.shelf.Loaded.TheVariants as loaded_as
 use Rattle.tva_outside.specs.declared.sink.Wrote as wrote

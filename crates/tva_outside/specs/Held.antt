@@ -1,8 +1,6 @@
 -- Product: what a shelf holds: bytes under names.
 use Rattle.std.specs.Prelude.{ℕ, List}
-use Rattle.std.specs.declared.option.Option.{Option}
-use Rattle.std.specs.Ordering.{nat_cmp}
-use Rattle.std.specs.Cmp.Lexicographic.{slice_cmp}
+use Rattle.std.specs.{declared.option.Option.Option, Ordering.nat_cmp, Cmp.Lexicographic.slice_cmp}
 use Rattle.std.specs.FinMap.{FinMap, get}
 
 -- from names, each as its bytes, to what is held there

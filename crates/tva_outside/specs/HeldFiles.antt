@@ -1,12 +1,9 @@
 -- Crate: a map of files as what is held under each name.
 use Rattle.std.specs.Prelude.{◌≡◌, ℕ, ◌+◌, ◌<◌, ◌≤◌, List, [], ◌∷◌, length, IsSomeAnd, None, Some}
 use Rattle.std.specs.Prelude.{String, Vec, string_bytes}
-use Rattle.std.specs.declared.alloc.Global.{Global}
-use Rattle.std.specs.BTreeMap.{BTreeMap}
-use Rattle.std.specs.FinMap.{empty, insert}
-use Rattle.tva_outside.specs.declared.shelf.Loaded.{Loaded}
+use Rattle.std.specs.{declared.alloc.Global.Global, BTreeMap.BTreeMap, FinMap.empty, FinMap.insert}
+use Rattle.tva_outside.specs.{declared.shelf.Loaded.Loaded, Held.HeldByName, Held.bytes_at}
 use Rattle.tva_outside.specs.declared.shelf.Loaded.TheVariants.{Bytes, Failed, TooLarge, OutOfMemory}
-use Rattle.tva_outside.specs.Held.{HeldByName, bytes_at}
 
 abbrev pub held_of : List (String Global × Vec ℕ Global) → HeldByName
 held_of [] = empty

@@ -1,8 +1,7 @@
 -- Product: what a shelf was asked for, and what it gave.
 use Rattle.std.specs.Prelude.{◌≡◌, ℕ, ◌≤◌, List, All, length, IsSomeAnd, None, Some}
-use Rattle.tva_outside.specs.declared.shelf.Loaded.{Loaded}
+use Rattle.tva_outside.specs.{declared.shelf.Loaded.Loaded, Held.HeldByName, Held.bytes_at}
 use Rattle.tva_outside.specs.declared.shelf.Loaded.TheVariants.{Bytes, Failed, TooLarge, OutOfMemory}
-use Rattle.tva_outside.specs.Held.{HeldByName, bytes_at}
 
 -- what was given: bytes, nothing, as the load failed, the least number of bytes that are too many, or nothing for want
 -- of memory

@@ -1,13 +1,8 @@
 -- Crate: what a shelf in memory answers, exactly.
 use Rattle.std.specs.Prelude.{if◌then◌else◌, ◌≡◌, ◌⊎◌, ℕ, Bool, true, false, List, [], ◌∷◌, ◌++◌, None}
-use Rattle.tva_outside.specs.Calls.{is_due}
-use Rattle.tva_outside.specs.Faults.{one_more}
-use Rattle.tva_outside.specs.Held.{bytes_at}
-use Rattle.tva_outside.specs.HeldFiles.{IsCopy}
-use Rattle.tva_outside.specs.Loads.{load_of}
-use Rattle.tva_outside.specs.ShelfState.{ShelfState}
-use Rattle.tva_outside.specs.declared.shelf.Loaded.{Loaded}
+use Rattle.tva_outside.specs.{declared.shelf.Loaded.Loaded, Calls.is_due, Faults.one_more, Held.bytes_at, Loads.load_of}
 use Rattle.tva_outside.specs.declared.shelf.Loaded.TheVariants.{Bytes, Failed, TooLarge, OutOfMemory}
+use Rattle.tva_outside.specs.{HeldFiles.IsCopy, ShelfState.ShelfState}
 
 -- the next load is to fail
 abbrev pub next_load_fails : ShelfState → Bool

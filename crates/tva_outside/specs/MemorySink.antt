@@ -1,10 +1,7 @@
 -- Crate: what a sink in memory answers, exactly.
 use Rattle.std.specs.Prelude.{◌≡◌, ℕ, min, Bool, true, false, List, ◌++◌, length, take}
-use Rattle.tva_outside.specs.Calls.{is_due}
-use Rattle.tva_outside.specs.Faults.{one_more}
-use Rattle.tva_outside.specs.SinkState.{SinkState}
-use Rattle.tva_outside.specs.declared.sink.Wrote.{Wrote}
-use Rattle.tva_outside.specs.declared.sink.Wrote.TheVariants.{Count, Failed, OutOfMemory}
+use Rattle.tva_outside.specs.declared.sink.Wrote.{Wrote, TheVariants.Count, TheVariants.Failed, TheVariants.OutOfMemory}
+use Rattle.tva_outside.specs.{Calls.is_due, Faults.one_more, SinkState.SinkState}
 
 -- the next write is to fail
 abbrev pub next_write_fails : SinkState → Bool

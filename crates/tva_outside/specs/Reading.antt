@@ -1,14 +1,10 @@
 -- Kit: how reading a file ends, for the contracts of the functions that read one.
 use Rattle.std.specs.Prelude.{◌≡◌, ◌≢◌, ℕ, ◌+◌, ◌<◌, ◌≤◌, List, length, IfSome, Result, Ok, Err}
-use Rattle.std.specs.declared.option.Option.{Option}
-use Rattle.std.specs.declared.io.Error.{Error}
+use Rattle.std.specs.{declared.option.Option.Option, declared.io.Error.Error, IoError.error_kind}
 use Rattle.std.specs.declared.io.ErrorKind.TheVariants as kind
-use Rattle.std.specs.IoError.{error_kind}
-use Rattle.tva_outside.specs.declared.file_shelf.Outcome.{Outcome}
-use Rattle.tva_outside.specs.declared.file_shelf.Outcome.TheVariants as outcome
-use Rattle.tva_outside.specs.declared.file_shelf.Reading.{Reading}
+use Rattle.tva_outside.specs.declared.{file_shelf.Outcome.Outcome, file_shelf.Reading.Reading, shelf.Loaded.Loaded}
 use Rattle.tva_outside.specs.declared.file_shelf.Reading.TheVariants.{Whole, Longer, Failed, OutOfMemory}
-use Rattle.tva_outside.specs.declared.shelf.Loaded.{Loaded}
+use Rattle.tva_outside.specs.declared.file_shelf.Outcome.TheVariants as outcome
 use Rattle.tva_outside.specs.declared.shelf.Loaded.TheVariants as loaded_as
 
 -- how one read ended of which the system answers so: with some bytes, or with none where none is left; an error is a

@@ -1,9 +1,8 @@
 -- Product: what a load may answer.
 use Rattle.std.specs.Prelude.{◌≡◌, ◌⊎◌, ℕ, ◌+◌, ◌<◌, ◌≤◌, List, length, IfSome, IsSomeAnd, None, Some}
 use Rattle.std.specs.declared.option.Option.{Option}
-use Rattle.tva_outside.specs.declared.shelf.Loaded.{Loaded}
+use Rattle.tva_outside.specs.{declared.shelf.Loaded.Loaded, Faults.Rose}
 use Rattle.tva_outside.specs.declared.shelf.Loaded.TheVariants.{Bytes, Failed, TooLarge, OutOfMemory}
-use Rattle.tva_outside.specs.Faults.{Rose}
 pub use Rattle.tva_outside.specs.Held.{HeldByName, bytes_at}
 
 -- it is told that nothing is held under the name

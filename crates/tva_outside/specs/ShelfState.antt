@@ -1,8 +1,7 @@
 -- Crate: what there is to know of a shelf in memory.
 use Rattle.std.specs.Prelude.{◌≡◌, ℕ, List, Result, Ok, Err, None, Some, refl}
-use Rattle.std.specs.declared.option.Option.{Option}
+use Rattle.std.specs.{declared.option.Option.Option, FinMap.code}
 use Rattle.std.specs.Coded.{Coded, code_by, coded×, coded_ℕ, coded_list, coded_option, coded_result}
-use Rattle.std.specs.FinMap.{code}
 use Rattle.tva_outside.specs.Held.{HeldByName}
 use Rattle.tva_outside.specs.Loads.{Given, Load, bytes, failure, too_many, no_memory}
 

@@ -1,11 +1,8 @@
 -- Kit: what a write to standard output answers, for the contracts of the functions that make one.
 use Rattle.std.specs.Prelude.{◌≡◌, ◌≢◌, ℕ, ◌≤◌, List, [], length, Result, Ok, Err, None, Some}
-use Rattle.std.specs.declared.option.Option.{Option}
-use Rattle.std.specs.declared.io.Error.{Error}
+use Rattle.std.specs.{declared.option.Option.Option, declared.io.Error.Error, IoError.error_kind}
 use Rattle.std.specs.declared.io.ErrorKind.TheVariants as kind
-use Rattle.std.specs.IoError.{error_kind}
-use Rattle.tva_outside.specs.declared.sink.Wrote.{Wrote}
-use Rattle.tva_outside.specs.declared.sink.Wrote.TheVariants.{Count, Failed, OutOfMemory}
+use Rattle.tva_outside.specs.declared.sink.Wrote.{Wrote, TheVariants.Count, TheVariants.Failed, TheVariants.OutOfMemory}
 
 -- a write that took something took no more than the piece, and something of a piece that isn't empty
 abbrev pub TakesSome : List ℕ → Wrote → Type 0

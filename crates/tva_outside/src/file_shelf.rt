@@ -1,9 +1,7 @@
 // The files of the system. What they hold isn't told; their failures are counted.
 ghost use Rattle.std.specs.Prelude.{◌≡◌, ◌≤◌, ◌^◌, ◌++◌, ◌∷◌, [], MatchResult, None};
-ghost use Rattle.tva_outside.specs.Edge.{faults_after_load};
-ghost use Rattle.tva_outside.specs.Loads.{load_of};
+ghost use Rattle.tva_outside.specs.{Edge.faults_after_load, Loads.load_of, Shelf.IsLoaded};
 ghost use Rattle.tva_outside.specs.Reading.{IsBroken, IsOutcome, IsReading, loaded_of};
-ghost use Rattle.tva_outside.specs.Shelf.{IsLoaded};
 
 use crate::seen::{Seen, SeenLoad, nothing, with_load};
 use crate::{Loaded, Shelf};
@@ -23,8 +21,7 @@ pub struct FileShelf<'a, R: Files> {
 }
 
 impl<'a, R: Files> Model for FileShelf<'a, R> {
-    ghost use Rattle.tva_outside.specs.Edge.{FilesState};
-    ghost use Rattle.tva_outside.specs.Seen.{all_behind};
+    ghost use Rattle.tva_outside.specs.{Edge.FilesState, Seen.all_behind};
 
     ghost Value = { FilesState };
 

@@ -2,9 +2,7 @@
 ghost use Rattle.std.specs.Prelude.{◌≡◌, ◌≤◌, ◌↔◌, ◌^◌, [], OnErr, OnOk, Some, None, ◌++◌, ◌∷◌};
 ghost use Rattle.std.specs.Option.{option_map};
 ghost use Rattle.std.specs.FinMap as map;
-ghost use Rattle.tva_outside.specs.Shelf.{bytes_at, IsLoaded};
-ghost use Rattle.tva_outside.specs.HeldFiles.{held_in, IsCopy};
-ghost use Rattle.tva_outside.specs.Loads.{load_of};
+ghost use Rattle.tva_outside.specs.{Shelf.bytes_at, Shelf.IsLoaded, HeldFiles.held_in, HeldFiles.IsCopy, Loads.load_of};
 ghost use Rattle.tva_outside.specs.MemoryShelf.{after_load, FailsToLoad, CopiesUnlessDue};
 
 use crate::calls::is_due;
@@ -28,8 +26,7 @@ pub struct MemoryShelf {
 }
 
 impl Model for MemoryShelf {
-    ghost use Rattle.tva_outside.specs.ShelfState.{ShelfState, coded_state};
-    ghost use Rattle.tva_outside.specs.HeldFiles.{held_of};
+    ghost use Rattle.tva_outside.specs.{ShelfState.ShelfState, ShelfState.coded_state, HeldFiles.held_of};
     ghost use Rattle.tva_outside.specs.Seen.{all_behind};
 
     ghost Value = { ShelfState };

@@ -1,8 +1,7 @@
 // A sink in memory, which may be told to fail.
 ghost use Rattle.std.specs.Prelude.{◌≡◌, ◌≤◌, [], OnErr, OnOk, Some, ◌++◌, ◌∷◌};
 ghost use Rattle.std.specs.Io.KnownBytes.{append_known};
-ghost use Rattle.tva_outside.specs.Sink.{IsWrote, bytes_taken};
-ghost use Rattle.tva_outside.specs.MemorySink.{after_write, AnswersWrite};
+ghost use Rattle.tva_outside.specs.{Sink.IsWrote, Sink.bytes_taken, MemorySink.after_write, MemorySink.AnswersWrite};
 
 use crate::calls::is_due;
 use crate::{Sink, Wrote};

@@ -1,7 +1,6 @@
 // What was seen, for proofs alone.
 ghost use Rattle.std.specs.Prelude.{◌≡◌, [], ◌∷◌, ◌++◌};
-ghost use Rattle.tva_outside.specs.Loads.{load_of};
-ghost use Rattle.tva_outside.specs.Seen.{all_behind};
+ghost use Rattle.tva_outside.specs.{Loads.load_of, Seen.all_behind};
 
 use crate::Loaded;
 use std::marker::Model;
@@ -50,8 +49,7 @@ pub(crate) struct SeenLoad {
 }
 
 impl Model for SeenLoad {
-    ghost use Rattle.tva_outside.specs.Loads.{Load, load_of};
-    ghost use Rattle.tva_outside.specs.Seen.{all_behind};
+    ghost use Rattle.tva_outside.specs.{Loads.Load, Loads.load_of, Seen.all_behind};
 
     ghost Value = { Load };
 

@@ -1,8 +1,7 @@
 // Where files come from.
 ghost use Rattle.std.specs.Prelude.{◌≡◌, ◌≤◌, ◌^◌, ◌++◌, ◌∷◌, [], List, ℕ};
 ghost use Rattle.std.specs.declared.option.Option.{Option};
-ghost use Rattle.tva_outside.specs.Loads.{Load, load_of};
-ghost use Rattle.tva_outside.specs.Shelf.{HeldByName, IsLoaded};
+ghost use Rattle.tva_outside.specs.{Loads.Load, Loads.load_of, Shelf.HeldByName, Shelf.IsLoaded};
 
 use std::alloc::Global;
 

@@ -1,7 +1,6 @@
 // Where the output goes.
 ghost use Rattle.std.specs.Prelude.{◌≡◌, ◌≤◌, ◌++◌, List, [], ℕ};
-ghost use Rattle.std.specs.declared.option.Option.{Option};
-ghost use Rattle.std.specs.Io.KnownBytes.{append_known};
+ghost use Rattle.std.specs.{declared.option.Option.Option, Io.KnownBytes.append_known};
 ghost use Rattle.tva_outside.specs.Sink.{IsWrote, IsSent, bytes_taken, sent};
 
 /// What a write answers.

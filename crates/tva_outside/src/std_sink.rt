@@ -1,7 +1,6 @@
 // Standard output. What it took isn't told; its failures are counted.
 ghost use Rattle.std.specs.Prelude.{◌≡◌, ◌≤◌, ◌++◌, [], None};
-ghost use Rattle.tva_outside.specs.Edge.{faults_after_write};
-ghost use Rattle.tva_outside.specs.Sink.{IsWrote, bytes_taken};
+ghost use Rattle.tva_outside.specs.{Edge.faults_after_write, Sink.IsWrote, Sink.bytes_taken};
 ghost use Rattle.tva_outside.specs.Writing.{AnswersTo, TakesSome};
 
 use crate::seen::{Seen, nothing, with_bytes};
@@ -19,8 +18,7 @@ pub struct StdSink<'a, R: Print> {
 }
 
 impl<'a, R: Print> Model for StdSink<'a, R> {
-    ghost use Rattle.tva_outside.specs.Edge.{OutputState};
-    ghost use Rattle.tva_outside.specs.Seen.{all_behind};
+    ghost use Rattle.tva_outside.specs.{Edge.OutputState, Seen.all_behind};
 
     ghost Value = { OutputState };
 

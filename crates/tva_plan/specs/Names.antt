@@ -1,8 +1,6 @@
 -- Product: the names of nodes, of which bytes they are, which node has a name, and which are hosts.
 use Rattle.std.specs.Prelude.{ℕ, ◌==◌, ◌&&◌, ◌||◌, nat_le, List, Option, Bool, true, false, slice_get}
-use Rattle.std.specs.Option.{option_map_or}
-use Rattle.std.specs.List.{position_from}
-use Rattle.std.specs.Str.{bytes_eq}
+use Rattle.std.specs.{Option.option_map_or, List.position_from, Str.bytes_eq}
 use Rattle.tva_plan.specs.declared.config.NodePlan as nodes
 use Rattle.tva_plan.specs.declared.config.NodePlan.TheVariants as node
 

@@ -1,16 +1,13 @@
 -- Crate: what every configuration keeps that a network can be built from.
 use Rattle.std.specs.Prelude.{◌≡◌, ◌<◌, ◌≤◌, ◌+◌, ℕ, List, [], ◌∷◌, All, true, length, map}
 use Rattle.std.specs.List.{list_all}
-use Rattle.tva_base.specs.declared.addresses.Address.{Address}
-use Rattle.tva_base.specs.declared.plan.LinkPlan.{LinkPlan}
-use Rattle.tva_base.specs.declared.plan.PolicyPlan.{PolicyPlan}
+use Rattle.tva_base.specs.declared.{addresses.Address.Address, plan.LinkPlan.LinkPlan, plan.PolicyPlan.PolicyPlan}
 use Rattle.tva_base.specs.Plan.{AreLinkLimits, AreDistinct, IsRouterPlan, IsHostPlan}
-use Rattle.tva_plan.specs.declared.config.Config.{Config}
+use Rattle.tva_plan.specs.{declared.config.Config.Config, Names.is_name_byte, Names.name_at, Names.is_host_plan}
+use Rattle.tva_plan.specs.Counts.{node_count, link_count, route_count, restart_count, reroute_count, slot_count}
+use Rattle.tva_plan.specs.Wiring.{links_from, all_places, incoming_of, outgoing_of}
 use Rattle.tva_plan.specs.declared.config.NodePlan as nodes
 use Rattle.tva_plan.specs.declared.config.NodePlan.TheVariants as node
-use Rattle.tva_plan.specs.Counts.{node_count, link_count, route_count, restart_count, reroute_count, slot_count}
-use Rattle.tva_plan.specs.Names.{is_name_byte, name_at, is_host_plan}
-use Rattle.tva_plan.specs.Wiring.{links_from, all_places, incoming_of, outgoing_of}
 
 -- a name: 1 to 16 letters, digits, `_` and `-`
 pub record IsName (text : List ℕ) : Type 0 where

@@ -1,8 +1,7 @@
 -- Product: what links give the nodes at their ends, and what their queues hold.
 use Rattle.std.specs.Prelude.{ℕ, ◌+◌, ◌*◌, ◌==◌, List, [], ◌∷◌, sum_by, if◌then◌else◌, Option, Some, None}
 use Rattle.std.specs.List.{cons_option}
-use Rattle.tva_base.specs.declared.limits.LinkLimits.{LinkLimits}
-use Rattle.tva_base.specs.declared.plan.LinkPlan.{LinkPlan}
+use Rattle.tva_base.specs.declared.{limits.LinkLimits.LinkLimits, plan.LinkPlan.LinkPlan}
 
 -- what a choice takes of each element, which it sees with its number
 abbrev pub picked : {A B : Type 0} → (ℕ → A → Option B) → ℕ → List A → List B

@@ -1,7 +1,6 @@
 // The names of nodes, which node has a name, and which are hosts.
 ghost use Rattle.std.specs.Prelude.{◌≡◌, ◌≤◌, ◌<◌, IfOk, IfSome, length};
-ghost use Rattle.tva_plan.specs.Names.{is_host, is_host_plan, name_at, node_named};
-ghost use Rattle.tva_plan.specs.Numbers.{Numbers};
+ghost use Rattle.tva_plan.specs.{Names.is_host, Names.is_host_plan, Names.name_at, Names.node_named, Numbers.Numbers};
 
 use crate::config::NodePlan;
 use std::alloc::{AllocError, Global};

@@ -1,19 +1,8 @@
 -- Look-ups by a comparison find what look-ups by a test find.
-use Rattle.tva_policy.proofs.Common.{◌≡◌, ℕ, ◌||◌, Bool, true, cond, eqb, List, [], ◌∷◌, Option, Some, refl, ap, sym, ◌∙◌, ◌+◌, arith, list_any, is_eq, nat_cmp, nat_tests, Address, has_address, has_tag, grants_kept}
+use Rattle.tva_policy.proofs.Common.{◌≡◌, ℕ, true, cond, eqb, List, Some, refl, ap, sym, ◌∙◌, ◌+◌, arith, list_any, is_eq, nat_cmp, nat_tests, Address, has_address, has_tag, grants_kept}
 use Rattle.std.specs.Map.{lookup}
 use Rattle.std.specs.Option.{unwrap_or}
-
--- tests that agree find the same
-pub list_any_same : {X : Type 0} (p q : X → Bool) → ((x : X) → p x ≡ q x) → (xs : List X) → list_any p xs ≡ list_any q xs
-list_any_same p q e [] = refl
-list_any_same p q e (x ∷ xs) = ap (λ b. b || list_any p xs) (e x) ∙ ap (λ b. q x || b) (list_any_same p q e xs)
-
-lookup_same : {K X : Type 0} (p q : K → Bool) → ((k : K) → p k ≡ q k) → (es : List (K × X)) → lookup p es ≡ lookup q es
-lookup_same p q e [] = refl
-lookup_same {X = X} p q e (x ∷ xs) = ap (λ b. cond b (Some x.1) (lookup p xs)) (e x.0) ∙ ap (λ (o : Option X). cond (q x.0) (Some x.1) o) (lookup_same p q e xs)
-
-pub is_eq-nat_cmp : (x y : ℕ) → is_eq (nat_cmp x y) ≡ eqb x y
-is_eq-nat_cmp x y = grind (arith, nat_tests)
+use Rattle.tva_base.proofs.Each.{list_any_same, lookup_same, is_eq-nat_cmp}
 
 pub has_address_by : (a : Address) (addresses : List Address) → list_any (λ d. is_eq (nat_cmp a.0 d.0)) addresses ≡ has_address addresses a
 has_address_by a addresses = list_any_same (λ d. is_eq (nat_cmp a.0 d.0)) (λ d. eqb a.0 d.0) (λ d. is_eq-nat_cmp a.0 d.0) addresses

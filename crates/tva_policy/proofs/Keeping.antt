@@ -1,9 +1,9 @@
 -- What a policy keeps, after one more deed.
 use Rattle.tva_policy.proofs.Common.{◌≡◌, ℕ, ◌+◌, ◌<◌, ◌≤◌, Bool, true, false, ◌&&◌, ◌||◌, not, cond, eqb, ltb, List, [], ◌∷◌, ◌++◌, get_or, set, Option, Some, None, refl, ap, ◌∙◌, arith, All, list_any, All-set, list_any-append, sum_by_push, nat_tests, Address, PolicyPlan, Deed, Sent, Decided, is_sending_to, is_grant_to, was_sent_to, has_address, has_tag, lets_in, is_granted, grant_decision, Notes, StandsFor, IsNotedIn, grants_kept, denies}
 use Rattle.std.proofs.lemmas.Bool.{eq-eqb}
+use Rattle.tva_base.proofs.Each.{list_any_same}
 use Rattle.tva_base.specs.declared.plan.PolicyKind.{PolicyKind}
 use Rattle.tva_base.specs.declared.plan.PolicyKind.TheVariants.{DenyAll, Client, Server}
-use Rattle.tva_policy.proofs.Compared.{list_any_same}
 
 one_or_other : (let_in denied tagged : Bool) → (let_in && not denied && not tagged) ≡ (let_in && not (denied || tagged))
 one_or_other true true tagged = refl

@@ -7,7 +7,7 @@ pub use Rattle.std.proofs.lemmas.List.{drop-append-le}
 pub use Rattle.std.proofs.lemmas.List.Elements.{filter-append, filter_map-append, All-nil, All-head, All-tail, All-push, All-weaker, All-cons}
 pub use Rattle.std.proofs.lemmas.List.Sums.{sum_by-cons, sum_by_push}
 pub use Rattle.std.specs.List.{filter_map, AllByRecursion, count_by, All, fold}
-pub use Rattle.std.specs.Prelude.{IsSome, nat_lt, ◌==◌}
+pub use Rattle.std.specs.Prelude.{IsSome, nat_lt}
 pub use Rattle.tva_base.specs.Plan.{AreLinkLimits, AreDrrLimits, AreClassLimits}
 pub use Rattle.tva_base.specs.declared.limits.DrrLimits.{DrrLimits}
 pub use Rattle.tva_base.specs.declared.limits.LinkLimits.{LinkLimits}
@@ -17,7 +17,7 @@ pub use Rattle.tva_base.specs.declared.packet.Time.{Time}
 pub use Rattle.tva_drr.proofs.Falling.{by_test, taken_falls, ahead-offer, ahead_most}
 pub use Rattle.tva_drr.proofs.GroupLists.{offered_is, none_true, bytes-changed}
 pub use Rattle.tva_drr.proofs.Keeping.{head_some, head_there, head-put}
-pub use Rattle.tva_drr.proofs.Lists.{all_bytes-put, by_key}
+pub use Rattle.tva_drr.proofs.Lists.{all_bytes-put}
 pub use Rattle.tva_drr.proofs.Nexts.{hier_taken, next_some, next_there, groups_there, next-offered, taken_under, next_ahead}
 pub use Rattle.tva_drr.proofs.Offering.{left_last, left_keeps, left_queued}
 pub use Rattle.tva_drr.proofs.OrderLaws.{goes_last, goes_first}
@@ -25,7 +25,7 @@ pub use Rattle.tva_drr.proofs.Until.{offer_cases, has_from_items, some_head}
 pub use Rattle.tva_drr.specs.Fair.{IsFair, AreMeasured, AreQueues, AreFair}
 pub use Rattle.tva_drr.specs.Groups.{Group, Hier, group, hier, inner_limits, next, fair_of, group_bytes, all_group_bytes, items_under}
 pub use Rattle.tva_drr.specs.GroupsOffer.{lacks_place, lacks_space, changed, put_under, left_by_offer, lacks_group, answer_to_offer}
-pub use Rattle.tva_drr.specs.GroupsTake.{group_refilled, group_popped, group_settled, groups_taken}
+pub use Rattle.tva_drr.specs.GroupsTake.{group_refilled, group_settled, groups_taken}
 pub use Rattle.tva_drr.specs.Hier.{AreGroups, IsHier}
 pub use Rattle.tva_drr.specs.Offer.{put, lacks_queue, lacks_room, offer_leaves, offer_answer}
 pub use Rattle.tva_drr.specs.Queues.{first, head, Queue, Fair, fair, has_key, items_of, bytes_in, queue, all_bytes, queue_bytes}

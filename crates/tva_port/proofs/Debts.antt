@@ -1,5 +1,5 @@
 -- The debt, once time goes on and once one more request starts.
-use Rattle.tva_port.proofs.Common.{◌≡◌, ℕ, ◌+◌, ◌-◌, ◌≤◌, Bool, true, false, ◌&&◌, leb, cond, List, [], ◌∷◌, ◌++◌, sym, subst, inl, inr, filter, arith, leb_tells, sum_by-cons, sum_by_push, LinkLimits, cost, costs, debt, is_between}
+use Rattle.tva_port.proofs.Common.{◌≡◌, ℕ, ◌+◌, ◌-◌, ◌≤◌, Bool, true, false, List, [], ◌∷◌, ◌++◌, filter, arith, leb_tells, sum_by-cons, sum_by_push, LinkLimits, cost, costs, debt, is_between, nat_tests}
 use Rattle.tva_port.specs.Requests.{Start}
 
 -- no start is later than that
@@ -21,23 +21,13 @@ debt-push l [] s now b h = omega (arith, sum_by-cons (cost_at l) s [])
 debt-push l (k ∷ ks) s now b h = omega (arith, debt-push l ks s now b.1 h, b.0, sum_by-cons (cost_at l) k ks, sum_by-cons (cost_at l) k (ks ++ s ∷ []), sum_by_push (cost_at l) ks s)
 
 pub by_between : (from to : ℕ) (s : Start) (P : Bool → Type 0) → (from ≤ s.time → s.time ≤ to → P true) → P false → P (is_between from to s)
-by_between from to s P t f =
-    elim (leb_tells from s.time) [
-      | inl h ↦ subst (λ b. P (b && leb s.time to)) (sym h.0) (elim (leb_tells s.time to) [ inl k ↦ subst P (sym k.0) (t h.1 k.1) | inr k ↦ subst P (sym k.0) f ])
-      | inr h ↦ subst (λ b. P (b && leb s.time to)) (sym h.0) f
-    ]
+by_between from to s P t f = grind (arith, nat_tests, leb_tells)
 
 kept_costs : (l : LinkLimits) (p : Start → Bool) (ss : List Start) → costs l (filter p ss) ≤ costs l ss
 kept_costs l p [] = omega arith
-kept_costs l p (s ∷ ss) = elim (p s) as (λ b. costs l (cond b (s ∷ filter p ss) (filter p ss)) ≤ costs l (s ∷ ss)) [
-  | true ↦ omega (arith, kept_costs l p ss, sum_by-cons (cost_at l) s (filter p ss), sum_by-cons (cost_at l) s ss)
-  | false ↦ omega (arith, kept_costs l p ss, sum_by-cons (cost_at l) s ss)
-]
+kept_costs l p (s ∷ ss) = grind (arith, nat_tests, (sum_by-cons (cost_at l) s (filter p ss)), (sum_by-cons (cost_at l) s ss), (kept_costs l p ss))
 
 -- what the starts from a time on cost, less the time since, is owed
 pub costs_owed : (l : LinkLimits) (ss : List Start) (from to now : ℕ) → AreBy now ss → costs l (filter (is_between from to) ss) - (now - from) ≤ debt l ss now
 costs_owed l [] from to now b = omega arith
-costs_owed l (s ∷ ss) from to now b =
-    by_between from to s (λ c. costs l (cond c (s ∷ filter (is_between from to) ss) (filter (is_between from to) ss)) - (now - from) ≤ debt l (s ∷ ss) now)
-    (λ lo hi. omega (arith, kept_costs l (is_between from to) ss, sum_by-cons (cost_at l) s (filter (is_between from to) ss), sum_by-cons (cost_at l) s ss))
-    (omega (arith, costs_owed l ss from to now b.1))
+costs_owed l (s ∷ ss) from to now b = grind (arith, nat_tests, by_between, (kept_costs l (is_between from to) ss), (sum_by-cons (cost_at l) s (filter (is_between from to) ss)), (sum_by-cons (cost_at l) s ss), (costs_owed l ss from to now b.1))

@@ -1,5 +1,5 @@
 -- Two queues of a class that are never empty send about as much as each other.
-use Rattle.tva_port.proofs.Common.{◌≡◌, ◌≢◌, ℕ, ◌+◌, ◌*◌, ◌<◌, true, ◌&&◌, cond, List, [], ◌∷◌, ◌++◌, Some, None, refl, sym, ap, ◌∙◌, subst, zero-add, arith, DrrLimits, LinkLimits, Class, Request, Regular, Legacy, AreLinkLimits, PacketData, packet_length, Queue, Fair, fair, has_key, head, put, lacks_queue, lacks_room, offer_leaves, take_leaves, IsFair, Step, Offer, Take, is_front, head_bytes, AreOffers, bytes_from, by_test, offer_cases, head_some, RequestQueues, OneLevel, TwoLevels, next_in, single_queues, Entry, Queued, Started, same_class, request_step, waiting_after, credit_after, Follows, AllFollow, IsStarted, IsLegal, AreWithin, IsWithinLimits, class_queues, bytes_started, IsNeverEmpty}
+use Rattle.tva_port.proofs.Common.{◌≡◌, ◌≢◌, ℕ, ◌+◌, ◌*◌, ◌<◌, true, cond, List, [], ◌∷◌, ◌++◌, Some, None, refl, sym, ap, ◌∙◌, zero-add, arith, DrrLimits, LinkLimits, Class, Request, Regular, Legacy, AreLinkLimits, PacketData, packet_length, Queue, Fair, fair, has_key, head, put, lacks_queue, lacks_room, offer_leaves, IsFair, Step, Offer, Take, AreOffers, bytes_from, by_test, offer_cases, head_some, RequestQueues, OneLevel, TwoLevels, next_in, single_queues, Entry, Queued, Started, same_class, request_step, waiting_after, credit_after, Follows, AllFollow, IsStarted, IsLegal, AreWithin, IsWithinLimits, class_queues, bytes_started, IsNeverEmpty, nat_tests}
 use Rattle.tva_drr.specs.Service as drr
 use Rattle.tva_drr.proofs.Fairness.{fairly}
 use Rattle.tva_port.proofs.Logs.{legal-front, fair_step, requests-push, goes_on-push}
@@ -25,10 +25,7 @@ limits_of l Legacy = l.regular
 -- on a link with one level the requests are in such queues
 one_level : (l : LinkLimits) (rs : RequestQueues) → l.request_inner ≡ None → AreWithin l rs
     → (rs ≡ OneLevel (fair l.request (single_queues rs))) × IsFair packet_length (fair l.request (single_queues rs))
-one_level l (OneLevel f) n w =
-    let e : f ≡ fair l.request f.queues = ap (λ (d : DrrLimits). fair d f.queues) w.2 in
-    (ap (λ z. OneLevel z) e, subst (λ z. IsFair packet_length z) e w.1)
-one_level l (TwoLevels h) n w = absurd (let k : None ≡ Some h.inner = sym n ∙ w.0 in cc)
+one_level l rs n w = grind arith
 
 -- where something waits in them, the link has one level
 is_one_level : (l : LinkLimits) (rs : RequestQueues) (key : ℕ) → AreWithin l rs
@@ -38,31 +35,18 @@ is_one_level l (TwoLevels h) key w k = absurd (cc)
 
 step_single : (f : Fair PacketData) (e : Entry)
     → single_queues (request_step (OneLevel f) e) ≡ (fair_step Request f e).queues
-step_single f (Queued t d k x) = by_test (same_class d Request)
-    (λ b. single_queues (cond b (OneLevel (offer_leaves packet_length f k x)) (OneLevel f)) ≡
-    (cond b (offer_leaves packet_length f k x) f).queues) (λ _. refl) (λ _. refl)
-step_single f (Started t d x) = by_test (same_class d Request)
-    (λ b. single_queues (cond b (OneLevel (take_leaves packet_length f)) (OneLevel f)) ≡
-    (cond b (take_leaves packet_length f) f).queues) (λ _. refl) (λ _. refl)
+step_single f e = grind (arith, nat_tests)
 
 -- the queues of the class under their limits, after one more entry
 queues-step : (l : LinkLimits) (c : Class) (log : List Entry) (e : Entry) → HasKeys l c
     → IsWithinLimits l (waiting_after l log)
     → class_queues c (waiting_after l (log ++ e ∷ [])) ≡
     (fair_step c (fair (limits_of l c) (class_queues c (waiting_after l log))) e).queues
-queues-step l Request log e q w =
-    let rs : RequestQueues = (waiting_after l log).requests in
-    ap (λ (z : RequestQueues). single_queues z) (requests-push l log e)
-    ∙ ap (λ (z : RequestQueues). single_queues (request_step z e)) (one_level l rs q w.requests).0
-    ∙ step_single (fair l.request (single_queues rs)) e
-queues-step l Regular log e q w = regulars-step l log e w
-queues-step l Legacy log e q w = absurd q
+queues-step l c log e q w = grind (arith, nat_tests, requests-push, one_level, step_single, regulars-step)
 
 fair_now : (l : LinkLimits) (c : Class) (log : List Entry) → HasKeys l c → IsWithinLimits l (waiting_after l log)
     → IsFair packet_length (fair (limits_of l c) (class_queues c (waiting_after l log)))
-fair_now l Request log q w = (one_level l (waiting_after l log).requests q w.requests).1
-fair_now l Regular log q w = regulars_now l log w
-fair_now l Legacy log q w = absurd q
+fair_now l c log q w = grind (arith, nat_tests, one_level, regulars_now)
 
 -- ## steps
 
@@ -83,15 +67,7 @@ offer_limits : (d : DrrLimits) (qs : List (Queue PacketData)) (k : ℕ) (x : Pac
 offer_limits d qs k x = offer_cases (lacks_queue (fair d qs) k) (lacks_room packet_length (fair d qs) k x) (fair d qs) (fair d (put d.quantum k x qs)) (λ (g : Fair PacketData). g ≡ fair d g.queues) refl (λ _ _. refl)
 
 same_own : (d e : Class) → same_class d e ≡ true → d ≡ e
-same_own Request Request h = refl
-same_own Regular Regular h = refl
-same_own Legacy Legacy h = refl
-same_own Request Regular h = absurd (cc)
-same_own Request Legacy h = absurd (cc)
-same_own Regular Request h = absurd (cc)
-same_own Regular Legacy h = absurd (cc)
-same_own Legacy Request h = absurd (cc)
-same_own Legacy Regular h = absurd (cc)
+same_own d e h = grind arith
 
 next_single : (l : LinkLimits) (rs : RequestQueues) → l.request_inner ≡ None → AreWithin l rs
     → head (single_queues rs) ≡ next_in rs
@@ -100,10 +76,7 @@ next_single l (TwoLevels h) n w = absurd (let k : None ≡ Some h.inner = sym n 
 
 head_started : (l : LinkLimits) (c : Class) (log : List Entry) (t : ℕ) (x : PacketData) → HasKeys l c
     → IsWithinLimits l (waiting_after l log) → IsStarted l log t c x → head (class_queues c (waiting_after l log)) ≡ Some x
-head_started l Request log t x q w f =
-    next_single l (waiting_after l log).requests q w.requests
-    ∙ (covered_pays l (credit_after l log t) (next_in (waiting_after l log).requests) x
-    (started_is l log t Request x f)).0
+head_started l Request log t x q w f = grind (arith, next_single l (waiting_after l log).requests q w.requests, covered_pays l (credit_after l log t) (next_in (waiting_after l log).requests) x, started_is l log t Request x f)
 head_started l Regular log t x q w f = started_is l log t Regular x f
 head_started l Legacy log t x q w f = absurd q
 
@@ -125,18 +98,7 @@ module _ (l : LinkLimits) (c : Class) (q : HasKeys l c) (a : AreLinkLimits l) wh
       (λ _ e. zero-add (bytes_started l c key (log ++ Queued t d k x ∷ []) es) ∙ h ∙ ap (λ z. bytes_from packet_length key z (steps_of c es)) (sym e ∙ sym (offer_limits (limits_of l c) (class_queues c (waiting_after l log)) k x)))
       (λ _ e. zero-add (bytes_started l c key (log ++ Queued t d k x ∷ []) es) ∙ h ∙ ap (λ z. bytes_from packet_length key z (steps_of c es)) (sym e))
       (sym s)
-  started_one key log (Started t d x) es g f h =
-      let s = state-step log (Started t d x) g in
-      by_test (same_class d c) (λ b. (same_class d c ≡ b) → fair (limits_of l c) (cond b (take_leaves packet_length (state l c log)) (state l c log)).queues ≡ state l c (log ++ Started t d x ∷ [])
-      → cond (b && is_front key (class_queues c (waiting_after l log))) (packet_length x) 0 + bytes_started l c key (log ++ Started t d x ∷ []) es ≡ bytes_from packet_length key (state l c log) (cond b (Take ∷ []) [] ++ steps_of c es))
-      (λ _ w e.
-      let own : IsStarted l log t c x = subst (λ z. IsStarted l log t z x) (same_own d c w) f in
-      let bytes : packet_length x ≡ head_bytes packet_length (class_queues c (waiting_after l log)) = sym
-      (head_some packet_length (class_queues c (waiting_after l log)) x (starts_head log t x g own)) in
-      ap (λ z. cond (is_front key (class_queues c (waiting_after l log))) z 0 + bytes_started l c key (log ++ Started t d x ∷ []) es) bytes
-      ∙ ap (λ z. cond (is_front key (class_queues c (waiting_after l log))) (head_bytes packet_length (class_queues c (waiting_after l log))) 0 + z) (h ∙ ap (λ z. bytes_from packet_length key z (steps_of c es)) (sym e)))
-      (λ _ _ e. zero-add (bytes_started l c key (log ++ Started t d x ∷ []) es) ∙ h ∙ ap (λ z. bytes_from packet_length key z (steps_of c es)) (sym e))
-      refl (sym s)
+  started_one key log (Started t d x) es g f h = grind (arith, nat_tests, (state-step log (Started t d x) g), (same_own d c), (head_some packet_length (class_queues c (waiting_after l log)) x), (starts_head log t x g), (zero-add (bytes_started l c key (log ++ Started t d x ∷ []) es)))
 
   started_are : (key : ℕ) (log es : List Entry) → IsLegal l log → AllFollow l log es → bytes_started l c key log es ≡ bytes_from packet_length key (state l c log) (steps_of c es)
   started_are key log [] g r = refl
@@ -145,18 +107,7 @@ module _ (l : LinkLimits) (c : Class) (q : HasKeys l c) (a : AreLinkLimits l) wh
   -- so it is with what waits all along
   waits_one : (key : ℕ) (log : List Entry) (e : Entry) (es : List Entry) → IsLegal l log → has_key key (class_queues c (waiting_after l log)) ≡ true → drr.AlwaysWaits packet_length key (state l c (log ++ e ∷ [])) (steps_of c es)
       → drr.AlwaysWaits packet_length key (state l c log) (step_of c e ++ steps_of c es)
-  waits_one key log (Queued t d k x) es g w h =
-      let s = state-step log (Queued t d k x) g in
-      by_test (same_class d c) (λ b. fair (limits_of l c) (cond b (offer_leaves packet_length (state l c log) k x) (state l c log)).queues ≡ state l c (log ++ Queued t d k x ∷ []) → drr.AlwaysWaits packet_length key (state l c log) (cond b (Offer k x ∷ []) [] ++ steps_of c es))
-      (λ _ e. (w, subst (λ z. drr.AlwaysWaits packet_length key z (steps_of c es)) (sym e ∙ sym (offer_limits (limits_of l c) (class_queues c (waiting_after l log)) k x)) h))
-      (λ _ e. subst (λ z. drr.AlwaysWaits packet_length key z (steps_of c es)) (sym e) h)
-      (sym s)
-  waits_one key log (Started t d x) es g w h =
-      let s = state-step log (Started t d x) g in
-      by_test (same_class d c) (λ b. fair (limits_of l c) (cond b (take_leaves packet_length (state l c log)) (state l c log)).queues ≡ state l c (log ++ Started t d x ∷ []) → drr.AlwaysWaits packet_length key (state l c log) (cond b (Take ∷ []) [] ++ steps_of c es))
-      (λ _ e. (w, subst (λ z. drr.AlwaysWaits packet_length key z (steps_of c es)) (sym e) h))
-      (λ _ e. subst (λ z. drr.AlwaysWaits packet_length key z (steps_of c es)) (sym e) h)
-      (sym s)
+  waits_one key log e es g w h = grind (arith, nat_tests, state-step, offer_limits)
 
   waits_all : (key : ℕ) (log es : List Entry) → IsLegal l log → AllFollow l log es → IsNeverEmpty l c key log es → drr.AlwaysWaits packet_length key (state l c log) (steps_of c es)
   waits_all key log [] g r w = w
@@ -164,17 +115,10 @@ module _ (l : LinkLimits) (c : Class) (q : HasKeys l c) (a : AreLinkLimits l) wh
 
   offers_all : (log es : List Entry) → AllFollow l log es → (limits_of l c).max ≡ 2048 → AreOffers packet_length (limits_of l c).max (steps_of c es)
   offers_all log [] r m = tt
-  offers_all log (Queued t d k x ∷ es) r m =
-      let h = offers_all (log ++ Queued t d k x ∷ []) es r.1 m in
-      by_test (same_class d c) (λ b. AreOffers packet_length (limits_of l c).max (cond b (Offer k x ∷ []) [] ++ steps_of c es)) (λ _. ((omega (arith, r.0.sized), omega (arith, r.0.sized, m)), h)) (λ _. h)
-  offers_all log (Started t d x ∷ es) r m =
-      let h = offers_all (log ++ Started t d x ∷ []) es r.1 m in
-      by_test (same_class d c) (λ b. AreOffers packet_length (limits_of l c).max (cond b (Take ∷ []) [] ++ steps_of c es)) (λ _. h) (λ _. h)
+  offers_all log (e ∷ es) r m = grind (arith, nat_tests, offers_all (log ++ e ∷ []) es r.1 m)
 
 most_of : (l : LinkLimits) (c : Class) → AreLinkLimits l → (limits_of l c).max ≡ 2048
-most_of l Request a = a.request.max
-most_of l Regular a = a.regular.max
-most_of l Legacy a = a.regular.max
+most_of l c a = grind (arith, nat_tests)
 
 -- what waits all along waits at first
 waits_first : (l : LinkLimits) (c : Class) (key : ℕ) (before between : List Entry)
@@ -184,10 +128,7 @@ waits_first l c key before (e ∷ es) w = w.0
 
 has_keys : (l : LinkLimits) (c : Class) (key : ℕ) (before between : List Entry) → IsQueueing c
     → IsWithinLimits l (waiting_after l before) → IsNeverEmpty l c key before between → HasKeys l c
-has_keys l Request key before between q i w = is_one_level l (waiting_after l before).requests key i.requests
-    (waits_first l Request key before between w)
-has_keys l Regular key before between q i w = tt
-has_keys l Legacy key before between q i w = absurd q
+has_keys l c key before between q i w = grind (arith, nat_tests, is_one_level, waits_first)
 
 -- between two places of a log
 pub even : (l : LinkLimits) (c : Class) (before between : List Entry) (a b : ℕ) → IsQueueing c → AreLinkLimits l → IsLegal l (before ++ between) → a ≢ b → IsNeverEmpty l c a before between → IsNeverEmpty l c b before between

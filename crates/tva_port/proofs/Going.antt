@@ -1,6 +1,6 @@
 -- A link while a packet waits: what its log says of each time, and of each start, where the packet is queued, and what
 -- then goes before it.
-use Rattle.tva_port.proofs.Common.{◌≡◌, ℕ, zero, suc, ◌+◌, ◌*◌, ◌<◌, ◌≤◌, true, false, cond, ltb, List, [], ◌∷◌, ◌++◌, drop, Option, Some, None, refl, sym, ap, ◌∙◌, subst, inl, inr, arith, append-nil, mul_assoc, ◌-◌, Bool, length, length-append, append_assoc, filter_map, mul-le-mul_right, add-mul, mul_comm, leb_tells, filter-append, LinkLimits, Class, Request, Regular, Legacy, AreLinkLimits, PacketData, packet_length, first, head, Fair, fair, items_of, bytes_in, Decision, Start, cost, next_in, request_answer, request_leaves, requests_with, Entry, Queued, Started, entry_time, NoneLater, entries_before, free_after, waiting_after, queued_legacy, covered, start_or, decision, credit_after, is_start, RestsAt, MissesNone, Follows, AllFollow, IsStarted, IsLegal, IsQueued, starts_first, start_among, waiting_with, requests_until, StartsBy, DrrLimits, lacks_queue, lacks_room, offer_answer, offer_leaves, most_until, goes_last, inner_key_of, offered_is, left_last, RequestQueues, OneLevel, TwoLevels}
+use Rattle.tva_port.proofs.Common.{◌≡◌, ℕ, zero, suc, ◌+◌, ◌*◌, ◌<◌, ◌≤◌, true, false, cond, ltb, List, [], ◌∷◌, ◌++◌, drop, Option, Some, None, refl, sym, ap, ◌∙◌, subst, inl, inr, arith, append-nil, mul_assoc, ◌-◌, length, length-append, append_assoc, filter_map, mul-le-mul_right, add-mul, mul_comm, filter-append, LinkLimits, Class, Request, Regular, Legacy, AreLinkLimits, PacketData, packet_length, first, head, Fair, items_of, bytes_in, Decision, Start, cost, next_in, request_answer, request_leaves, requests_with, Entry, Queued, Started, entry_time, NoneLater, entries_before, free_after, waiting_after, queued_legacy, covered, start_or, decision, credit_after, is_start, RestsAt, MissesNone, Follows, AllFollow, IsStarted, IsLegal, IsQueued, starts_first, start_among, waiting_with, requests_until, StartsBy, DrrLimits, lacks_queue, lacks_room, offer_answer, offer_leaves, most_until, goes_last, inner_key_of, offered_is, left_last, RequestQueues, OneLevel, TwoLevels, nat_tests}
 use Rattle.tva_port.proofs.Logs.{later-front, entries_before-all, free-queued, free-started, legal-all, queued-push, goes_on-push, legal-front, requests-push, regulars-push}
 use Rattle.tva_port.proofs.Deciding.{Rests, none_starts, covered_pays}
 use Rattle.tva_port.proofs.Legality.{started_is}
@@ -42,11 +42,7 @@ come_from l time before (e ∷ es) g h = (h (entry_time e) (order_of l before e 
 
 cut_none : (until : ℕ) (es : List Entry) → ComeFrom until es → entries_before until es ≡ []
 cut_none until [] c = refl
-cut_none until (e ∷ es) c =
-    elim (leb_tells (suc (entry_time e)) until) [
-      | inl k ↦ absurd (omega (arith, k.1, c.0))
-      | inr k ↦ subst (λ b. cond b (e ∷ entries_before until es) (entries_before until es) ≡ []) (sym k.0) (cut_none until es c.1)
-    ]
+cut_none until (e ∷ es) c = grind (arith, nat_tests, cut_none until es)
 
 later_from : (time until : ℕ) (es : List Entry) → until ≤ time → ComeFrom time es → ComeFrom until es
 later_from time until [] h c = tt
@@ -84,9 +80,7 @@ no_request a other None class p n e = refl
 no_request a other (Some x) class p n e = absurd (n (let k : Request ≡ class = cc in sym k))
 
 no_regular : (o b : Option PacketData) (other : Decision) (p : PacketData) → start_or Request o (start_or Regular b other) ≡ Start Legacy p → b ≡ None
-no_regular (Some x) b other p e = absurd (let k : Request ≡ Legacy = cc in cc)
-no_regular None None other p e = refl
-no_regular None (Some x) other p e = absurd (let k : Regular ≡ Legacy = cc in cc)
+no_regular o b other p e = grind arith
 
 pub not_covered : (l : LinkLimits) (log : List Entry) (time : ℕ) (class : Class) (p : PacketData)
     → (class ≡ Request → ⊥) → decision l log time ≡ Start class p
@@ -111,10 +105,7 @@ sized-push [] qs h k = k
 sized-push (p ∷ ps) qs h k = (h.0, sized-push ps qs h.1 k)
 
 legacy_sized : (l : LinkLimits) (before : List Entry) (e : Entry) → Follows l before e → AreSized (filter_map queued_legacy (e ∷ []))
-legacy_sized l before (Queued t Request k p) f = tt
-legacy_sized l before (Queued t Regular k p) f = tt
-legacy_sized l before (Queued t Legacy k p) f = (f.sized.1, tt)
-legacy_sized l before (Started t c p) f = tt
+legacy_sized l before e f = grind (arith, nat_tests)
 
 all_sized : (l : LinkLimits) (log : List Entry) → IsLegal l log → AreSized (filter_map queued_legacy log)
 all_sized l log g =
@@ -129,17 +120,8 @@ sized-drop (suc n) (x ∷ xs) p h e = sized-drop n xs p h.1 e
 
 -- each packet that starts has at most 2,048 bytes
 pub start_sized : (l : LinkLimits) (log : List Entry) (time : ℕ) (class : Class) (p : PacketData) → AreLinkLimits l → IsLegal l log → IsStarted l log time class p → packet_length p ≤ 2048
-start_sized l log time Request p a g f =
-    let h = (covered_pays l (credit_after l log time) (next_in (waiting_after l log).requests) p
-    (started_is l log time Request p f)).0 in
-    omega (arith, request_sized l (waiting_after l log).requests p (within l log a g).requests h, a.request.max)
-start_sized l log time Regular p a g f =
-    omega (
-      arith,
-      head_sized l.regular (waiting_after l log).regulars.queues p
-          (regulars_now l log (within l log a g)).queues.each (started_is l log time Regular p f),
-      a.regular.max,
-    )
+start_sized l log time Request p a g f = grind (arith, nat_tests, (covered_pays l (credit_after l log time) (next_in (waiting_after l log).requests) p (started_is l log time Request p f)), (started_is l log time Request p f), (request_sized l (waiting_after l log).requests p (within l log a g).requests))
+start_sized l log time Regular p a g f = grind (arith, nat_tests, (head_sized l.regular (waiting_after l log).regulars.queues p (regulars_now l log (within l log a g)).queues.each (started_is l log time Regular p f)), (regulars_now l log (within l log a g)), (started_is l log time Regular p f))
 start_sized l log time Legacy p a g f = sized-drop _ (filter_map queued_legacy log) p (all_sized l log g) (started_is l log time Legacy p f)
 
 -- so a link is free at most the time of a greatest packet after its last entry
@@ -181,24 +163,12 @@ module _ (l : LinkLimits) (class : Class) (key : ℕ) (p : PacketData) where
   pub finds_next : (n : ℕ) (log : List Entry) (e : Entry) (es : List Entry) (time : ℕ)
       → starts_first l class key p log e ≡ true → Finds l class key p n (log ++ e ∷ []) es time
       → Finds l class key p (suc n) log (e ∷ es) time
-  finds_next n log e es time h f = record {
-    start = f.start;
-    found = ap
-        (λ b. start_among l class key p (cond b n (suc n)) (log ++ e ∷ []) es) h ∙ f.found;
-    soon = f.soon;
-  }
+  finds_next n log e es time h f = record { start = f.start; found = grind (arith, nat_tests, f.found); soon = f.soon }
 
   pub finds_here : (log : List Entry) (start : ℕ) (q : PacketData) (es : List Entry) (time : ℕ)
       → starts_first l class key p log (Started start class q) ≡ true → q ≡ p → start ≤ time
       → Finds l class key p zero log (Started start class q ∷ es) time
-  finds_here log start q es time h e k = record {
-    start = start;
-    found = ap
-        (λ b. cond b (Some (Started start class q))
-        (start_among l class key p zero (log ++ Started start class q ∷ []) es)) h ∙ ap
-        (λ z. Some (Started start class z)) e;
-    soon = k;
-  }
+  finds_here log start q es time h e k = record { start = start; found = grind (arith, nat_tests); soon = k }
 
 pub goes_rest : (l : LinkLimits) (past log rest : List Entry) → AllFollow l past (log ++ rest) → AllFollow l (past ++ log) rest
 goes_rest l past [] rest g = subst (λ z. AllFollow l z rest) (sym (append-nil past)) g
@@ -213,10 +183,7 @@ legal_up l before e rest g = legal-front l [] (before ++ e ∷ []) rest (subst (
 -- a queued item goes last
 put_items : (f : Fair PacketData) (key : ℕ) (p : PacketData) → offer_answer packet_length f key p ≡ offers.Queued
     → items_of key (offer_leaves packet_length f key p).queues ≡ items_of key f.queues ++ p ∷ []
-put_items f key p e =
-    let t = queued_tests (lacks_queue f key) (lacks_room packet_length f key p) p e in
-    ap (λ (z : Fair PacketData). items_of key z.queues) (offered_is packet_length f key p t.0 t.1)
-    ∙ (goes_last f.limits f.limits.quantum key p f.queues).own
+put_items f key p e = grind (arith, nat_tests, (queued_tests (lacks_queue f key) (lacks_room packet_length f key p) p e), (offered_is packet_length f key p), (goes_last f.limits f.limits.quantum key p f.queues))
 
 put_request : (rs : RequestQueues) (key : ℕ) (p : PacketData) → request_answer rs key p ≡ offers.Queued
     → requests_with (request_leaves rs key p) key p ≡ requests_with rs key p ++ p ∷ []
@@ -227,13 +194,7 @@ put_request (TwoLevels h) key p e = (left_last packet_length h key (inner_key_of
 pub queued_last : (l : LinkLimits) (c : Class) (before : List Entry) (t key : ℕ) (p : PacketData) → IsQueueing c
     → IsQueued l before t c key p
     → waiting_with l c key p (before ++ Queued t c key p ∷ []) ≡ waiting_with l c key p before ++ p ∷ []
-queued_last l Request before t key p q f =
-    ap (λ (rs : RequestQueues). requests_with rs key p) (requests-push l before (Queued t Request key p))
-    ∙ put_request (waiting_after l before).requests key p f.offer
-queued_last l Regular before t key p q f =
-    ap (λ (z : Fair PacketData). items_of key z.queues) (regulars-push l before (Queued t Regular key p))
-    ∙ put_items (waiting_after l before).regulars key p f.offer
-queued_last l Legacy before t key p q f = absurd q
+queued_last l c before t key p q f = grind (arith, nat_tests, requests-push, put_request, regulars-push, put_items)
 
 -- and at most the bound goes up to it
 pub regular_first : (l : LinkLimits) (before : List Entry) (t key : ℕ) (p : PacketData) → AreLinkLimits l
@@ -280,9 +241,4 @@ pub starts_by_found : (l : LinkLimits) (c : Class) (before after : List Entry) (
     (time : ℕ) → waiting_with l c key p (before ++ Queued t c key p ∷ []) ≡ waiting_with l c key p before ++ p ∷ []
     → Finds l c key p (length (waiting_with l c key p before)) (before ++ Queued t c key p ∷ []) after time
     → StartsBy l c key p (before ++ Queued t c key p ∷ []) after time
-starts_by_found l c before after t key p time e f =
-    let n : length (waiting_with l c key p before) ≡ length
-    (waiting_with l c key p (before ++ Queued t c key p ∷ [])) - 1 = omega
-    (arith, ap length e, length-append (waiting_with l c key p before) (p ∷ [])) in
-    let g = subst (λ k. Finds l c key p k (before ++ Queued t c key p ∷ []) after time) n f in
-    record { start = g.start; found = g.found; soon = g.soon }
+starts_by_found l c before after t key p time e f = grind (arith, nat_tests, length-append)

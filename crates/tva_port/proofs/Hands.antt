@@ -1,5 +1,5 @@
 -- What is known of a packet in the caller's hand.
-use Rattle.tva_port.proofs.Common.{◌≡◌, ℕ, Bool, true, false, cond, Option, Some, None, refl, sym, ap, true≢false, IsSome, LinkLimits, Class, Request, Regular, Legacy, PacketData, packet_length, inner_key_of, Offered, lacks_queue, lacks_room, lacks_place, lacks_space, RequestQueues, OneLevel, TwoLevels, Answer, AreOneAnswer, answer_by, kept_by, request_answer, Decision, Start, WaitUntil, Idle, Waiting, lacks_legacy_room, queue_answer, is_start, decision_leaves, freed}
+use Rattle.tva_port.proofs.Common.{◌≡◌, ℕ, Bool, true, false, cond, Option, Some, None, refl, sym, true≢false, IsSome, LinkLimits, Class, PacketData, packet_length, inner_key_of, Offered, lacks_queue, lacks_room, lacks_place, lacks_space, RequestQueues, OneLevel, TwoLevels, Answer, AreOneAnswer, answer_by, kept_by, request_answer, Decision, Waiting, queue_answer, is_start, decision_leaves, freed, arith, nat_tests}
 use Rattle.tva_drr.specs.declared.offered.Offered.TheVariants as offers
 use Rattle.tva_port.specs.declared.hand.Answer.TheVariants as answers
 
@@ -13,15 +13,11 @@ by_packet None held by = absurd (true≢false (sym held))
 
 -- what doesn't start leaves what waits
 pub rested_leaves : (d : Decision) (w : Waiting) → is_start d ≡ false → decision_leaves d w ≡ w
-rested_leaves (Start class packet) w e = absurd (true≢false e)
-rested_leaves (WaitUntil time) w e = refl
-rested_leaves Idle w e = refl
+rested_leaves d w e = grind (arith, nat_tests)
 
 -- and the time at which the link is free
 pub rested_free : (l : LinkLimits) (free now : ℕ) (d : Decision) → is_start d ≡ false → freed l free now d ≡ free
-rested_free l free now (Start class packet) e = absurd (true≢false e)
-rested_free l free now (WaitUntil time) e = refl
-rested_free l free now Idle e = refl
+rested_free l free now d e = grind (arith, nat_tests)
 
 -- ## what a hand holds after an offer
 
@@ -32,9 +28,7 @@ IsOf p (offers.NoQueue q) = q ≡ p
 IsOf p (offers.QueueFull q) = q ≡ p
 
 of_tests : (b c : Bool) (p : PacketData) → IsOf p (cond b (offers.NoQueue p) (cond c (offers.QueueFull p) offers.Queued))
-of_tests true c p = refl
-of_tests false true p = refl
-of_tests false false p = tt
+of_tests b c p = grind (arith, nat_tests)
 
 of_requests : (rs : RequestQueues) (key : ℕ) (p : PacketData) → IsOf p (request_answer rs key p)
 of_requests (OneLevel f) key p = of_tests (lacks_queue f key) (lacks_room packet_length f key p) p
@@ -45,13 +39,7 @@ of_legacy true p = refl
 of_legacy false p = tt
 
 pub of_queue : (l : LinkLimits) (w : Waiting) (class : Class) (key : ℕ) (p : PacketData) → IsOf p (queue_answer l w class key p)
-of_queue l w Request key p = of_requests w.requests key p
-of_queue l w Regular key p = of_tests (lacks_queue w.regulars key) (lacks_room packet_length w.regulars key p) p
-of_queue l w Legacy key p = of_legacy (lacks_legacy_room l w.legacy p) p
+of_queue l w class key p = grind (arith, nat_tests, of_requests, of_tests, of_legacy)
 
 pub kept : (answer : Answer) (hand : Option PacketData) (p : PacketData) → AreOneAnswer answer hand → IsOf p (answer_by answer hand) → hand ≡ kept_by answer p
-kept answers.Queued hand p one of = one
-kept answers.NoQueue None p one of = absurd (true≢false (sym one))
-kept answers.NoQueue (Some q) p one of = ap Some of
-kept answers.QueueFull None p one of = absurd (true≢false (sym one))
-kept answers.QueueFull (Some q) p one of = ap Some of
+kept answer hand p one of = grind (arith, one, of)

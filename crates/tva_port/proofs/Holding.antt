@@ -1,5 +1,5 @@
 -- What holds of each packet that is offered holds of those that wait, and of the next.
-use Rattle.tva_port.proofs.Common.{◌≡◌, ℕ, ◌-◌, Bool, true, false, cond, List, [], ◌∷◌, ◌++◌, Option, Some, None, subst, nat_lt, ◌==◌, AllByRecursion, DrrLimits, LinkLimits, PacketData, packet_length, inner_key_of, Queue, Fair, queue, fair, first, head, lacks_queue, lacks_room, put, offer_leaves, refilled, popped, settled, front_settled, taken, take_leaves, first_bytes, offer_cases, Group, Hier, group, hier, inner_limits, next, lacks_place, lacks_space, changed, put_under, left_by_offer, group_refilled, group_popped, group_settled, groups_taken, RequestQueues, OneLevel, TwoLevels, none_under, no_requests, next_in, request_leaves, request_taken}
+use Rattle.tva_port.proofs.Common.{◌≡◌, ℕ, ◌-◌, Bool, true, false, cond, List, [], ◌∷◌, ◌++◌, Option, Some, None, subst, nat_lt, AllByRecursion, DrrLimits, LinkLimits, PacketData, packet_length, inner_key_of, Queue, Fair, fair, first, head, put, offer_leaves, refilled, popped, settled, front_settled, taken, take_leaves, first_bytes, Group, Hier, inner_limits, next, changed, left_by_offer, group_refilled, group_settled, groups_taken, RequestQueues, OneLevel, TwoLevels, none_under, no_requests, next_in, request_leaves, request_taken, arith, nat_tests}
 
 each_more : {A : Type 0} (P : A → Type 0) (xs : List A) (x : A) → AllByRecursion P xs → P x
     → AllByRecursion P (xs ++ x ∷ [])
@@ -21,17 +21,11 @@ module _ (P : PacketData → Type 0) where
 
   each-put : (start key : ℕ) (p : PacketData) (qs : List (Queue PacketData)) → P p → Each qs → Each (put start key p qs)
   each-put start key p [] h k = ((h, tt), tt)
-  each-put start key p (q ∷ qs) h k =
-      either (q.key == key) (queue q.key q.deficit (q.items ++ p ∷ []) ∷ qs) (q ∷ put 0 key p qs)
-      (each_more P q.items p k.0 h, k.1)
-      (k.0, each-put 0 key p qs h k.1)
+  each-put start key p (q ∷ qs) h k = grind (arith, nat_tests, each_more P q.items p, each-put 0 key p qs)
 
   pub each-offered : (f : Fair PacketData) (key : ℕ) (p : PacketData) → P p → Each f.queues
       → Each (offer_leaves packet_length f key p).queues
-  each-offered f key p h k =
-      offer_cases (lacks_queue f key) (lacks_room packet_length f key p) f
-      (fair f.limits (put f.limits.quantum key p f.queues))
-      (λ (z : Fair PacketData). Each z.queues) k (λ _ _. each-put f.limits.quantum key p f.queues h k)
+  each-offered f key p h k = grind (arith, nat_tests, each-put f.limits.quantum key p f.queues)
 
   each-refilled : (quantum : ℕ) (qs : List (Queue PacketData)) → Each qs → Each (refilled quantum qs)
   each-refilled quantum [] h = tt
@@ -39,13 +33,7 @@ module _ (P : PacketData → Type 0) where
 
   each-settled : (quantum key deficit : ℕ) (xs : List PacketData) (qs : List (Queue PacketData))
       → AllByRecursion P xs → Each qs → Each (settled packet_length quantum key deficit xs qs)
-  each-settled quantum key deficit [] qs h k = each-refilled quantum qs k
-  each-settled quantum key deficit (x ∷ xs) qs h k =
-      let last : Queue PacketData = queue key deficit (x ∷ xs) in
-      either (nat_lt deficit (packet_length x)) (refilled quantum (qs ++ last ∷ [])) (last ∷ qs)
-      (each-refilled quantum (qs ++ last ∷ []) (each_more
-      (λ (q : Queue PacketData). AllByRecursion P q.items) qs last k h))
-      (h, k)
+  each-settled quantum key deficit xs qs h k = grind (arith, nat_tests, each-refilled, either, each_more)
 
   each-popped : (quantum key deficit : ℕ) (xs : List PacketData) (qs : List (Queue PacketData))
       → AllByRecursion P xs → Each qs
@@ -81,19 +69,11 @@ module _ (P : PacketData → Type 0) where
       → InGroups gs
       → InGroups (changed (λ f. offer_leaves packet_length f inner p) l start outer gs)
   groups-changed l start outer inner p [] h k = (each-offered (fair l []) inner p h tt, tt)
-  groups-changed l start outer inner p (g ∷ gs) h k =
-      groups_either (g.key == outer) (group g.key g.deficit (offer_leaves packet_length g.queues inner p) ∷ gs)
-      (g ∷ changed (λ f. offer_leaves packet_length f inner p) l 0 outer gs)
-      (each-offered g.queues inner p h k.0, k.1)
-      (k.0, groups-changed l 0 outer inner p gs h k.1)
+  groups-changed l start outer inner p (g ∷ gs) h k = grind (arith, nat_tests, each-offered g.queues inner p h, groups-changed l 0 outer inner p gs h)
 
   groups-offered : (h : Hier PacketData) (outer inner : ℕ) (p : PacketData) → P p → InGroups h.groups
       → InGroups (left_by_offer packet_length h outer inner p).groups
-  groups-offered h outer inner p w k =
-      offer_cases (lacks_place h outer inner) (lacks_space packet_length h outer inner p) h
-      (hier h.limits h.inner (put_under packet_length h outer inner p))
-      (λ (z : Hier PacketData). InGroups z.groups) k
-      (λ _ _. groups-changed (inner_limits h.limits h.inner) h.limits.quantum outer inner p h.groups w k)
+  groups-offered h outer inner p w k = grind (arith, nat_tests, groups-changed (inner_limits h.limits h.inner) h.limits.quantum outer inner p h.groups w)
 
   groups-refilled : (quantum : ℕ) (gs : List (Group PacketData)) → InGroups gs → InGroups (group_refilled quantum gs)
   groups-refilled quantum [] h = tt
@@ -111,10 +91,7 @@ module _ (P : PacketData → Type 0) where
 
   groups-taken : (quantum : ℕ) (gs : List (Group PacketData)) → InGroups gs
       → InGroups (groups_taken packet_length quantum gs)
-  groups-taken quantum [] h = tt
-  groups-taken quantum (g ∷ gs) h =
-      groups-settled quantum (group_popped packet_length g) (take_leaves packet_length g.queues).queues gs
-      (each-taken g.queues h.0) h.1
+  groups-taken quantum gs h = grind (arith, nat_tests, groups-settled, each-taken)
 
   groups-next : (gs : List (Group PacketData)) (p : PacketData) → InGroups gs → next gs ≡ Some p → P p
   groups-next [] p h e = absurd (cc)

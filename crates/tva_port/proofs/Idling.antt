@@ -1,5 +1,5 @@
 -- A link is idle exactly where nothing waits, and waits only where requests alone wait.
-use Rattle.tva_port.proofs.Common.{◌≡◌, ℕ, ◌↔◌, List, [], ◌∷◌, Option, None, refl, sym, ap, ◌∙◌, append-nil, LinkLimits, Time, AreLinkLimits, PacketData, Queue, first, head, Decision, WaitUntil, Idle, next_in, Entry, Waiting, waiting_after, IsEmpty, IsRequestAlone, covered, wait_for, decision, credit_after, is_start, IsLegal, IsWithinLimits}
+use Rattle.tva_port.proofs.Common.{◌≡◌, ℕ, ◌↔◌, List, [], None, sym, ap, ◌∙◌, append-nil, LinkLimits, Time, AreLinkLimits, PacketData, Decision, WaitUntil, Idle, next_in, Entry, Waiting, waiting_after, IsEmpty, IsRequestAlone, decision, credit_after, is_start, IsLegal, IsWithinLimits, arith, nat_tests}
 use Rattle.tva_port.proofs.Deciding.{Rests, rests_is}
 use Rattle.tva_port.proofs.Resting.{resting, wait_is, idle_is}
 use Rattle.tva_port.proofs.Limits.{stays_within}
@@ -10,23 +10,14 @@ within l log a g = stays_within l log a g log [] (sym (append-nil log))
 
 idle_none : (l : LinkLimits) (log : List Entry) (now : ℕ) → Idle ≡ decision l log now
     → (next_in (waiting_after l log).requests ≡ None) × Rests l (waiting_after l log) (credit_after l log now)
-idle_none l log now e =
-    let r = resting l log now (ap is_start (sym e)) in
-    (idle_is (l) (credit_after l log now) now (next_in (waiting_after l log).requests) (sym r.1 ∙ sym e), r.0)
+idle_none l log now e = grind (arith, nat_tests, (resting l log now (ap is_start (sym e))), idle_is)
 
 empty_rests : (l : LinkLimits) (w : Waiting) (credit : ℕ) → IsEmpty w → Rests l w credit
-empty_rests l w credit e = record {
-  requests = ap (λ (o : Option PacketData). covered l credit o) (none_next w.requests e.requests);
-  regulars = ap (λ (qs : List (Queue PacketData)). head qs) e.regulars;
-  legacy = ap (λ (xs : List PacketData). first xs) e.legacy;
-}
+empty_rests l w credit e = grind (arith, nat_tests, none_next)
 
 pub empty_idles : (l : LinkLimits) (log : List Entry) (now : ℕ) → IsEmpty (waiting_after l log) → decision l log now ≡ Idle
 unfolding decision
-empty_idles l log now e =
-    rests_is l (waiting_after l log) (credit_after l log now) now (empty_rests l (waiting_after l log) (credit_after l log now) e)
-    ∙ ap (λ (o : Option PacketData). wait_for l (credit_after l log now) now o)
-    (none_next (waiting_after l log).requests e.requests)
+empty_idles l log now e = grind (arith, nat_tests, rests_is, empty_rests, none_next)
 
 -- a link is idle exactly where nothing waits
 pub idles : (l : LinkLimits) (log : List Entry) (now : ℕ) (d : Decision) → AreLinkLimits l → IsLegal l log → d ≡ decision l log now → (d ≡ Idle) ↔ IsEmpty (waiting_after l log)

@@ -1,6 +1,6 @@
 -- What every legal log keeps: no more legacy packets start than were queued, the debt never passes the
 -- cap, the requests keep their rate, and no two packets start at one time.
-use Rattle.tva_port.proofs.Common.{◌≡◌, ℕ, ◌+◌, ◌-◌, ◌*◌, ◌≤◌, ◌<◌, cond, List, [], ◌∷◌, ◌++◌, length, drop, filter, Some, refl, sym, ap, ◌∙◌, subst, zero, suc, arith, append-nil, filter_map, count_by, All, mul-le-mul, AreLinkLimits, sum_by_push, filter-append, filter_map-append, All-nil, All-head, All-tail, All-push, All-weaker, LinkLimits, Class, Request, Regular, Legacy, PacketData, packet_length, first, start, cost, costs, debt, cap, next_in, Entry, Queued, Started, NoneLater, request_starts, free_after, queued_legacy, is_legacy_start, waiting_after, decision, credit_after, IsStarted, Follows, IsLegal, is_between, IsWithinRate, start_time, start_times, AreRising}
+use Rattle.tva_port.proofs.Common.{◌≡◌, ℕ, ◌+◌, ◌-◌, ◌*◌, ◌≤◌, ◌<◌, List, [], ◌∷◌, ◌++◌, length, drop, filter, Some, refl, sym, ap, subst, zero, suc, arith, append-nil, filter_map, count_by, All, mul-le-mul, AreLinkLimits, sum_by_push, filter-append, filter_map-append, All-nil, All-head, All-tail, All-push, All-weaker, LinkLimits, Class, Request, Regular, Legacy, PacketData, packet_length, first, start, cost, costs, debt, cap, next_in, Entry, Queued, Started, NoneLater, request_starts, free_after, queued_legacy, is_legacy_start, waiting_after, decision, credit_after, IsStarted, Follows, IsLegal, is_between, IsWithinRate, start_time, start_times, AreRising, nat_tests}
 use Rattle.std.proofs.lemmas.List.{length-append}
 use Rattle.tva_port.specs.Requests.{Start}
 use Rattle.tva_port.proofs.Debts.{AreBy, cost_at, debt-push, by_between, costs_owed}
@@ -24,9 +24,7 @@ few-step l before (Queued t Regular k p) f h = omega (arith, count-push before (
 few-step l before (Queued t Legacy k p) f h = omega (arith, count-push before (Queued t Legacy k p), ap length (queued-push before (Queued t Legacy k p)), length-append (filter_map queued_legacy before) (p ∷ []))
 few-step l before (Started t Request p) f h = omega (arith, count-push before (Started t Request p), ap length (queued-push before (Started t Request p)), length-append (filter_map queued_legacy before) [])
 few-step l before (Started t Regular p) f h = omega (arith, count-push before (Started t Regular p), ap length (queued-push before (Started t Regular p)), length-append (filter_map queued_legacy before) [])
-few-step l before (Started t Legacy p) f h =
-    let left = some_left (count_by is_legacy_start before) (filter_map queued_legacy before) p (started_is l before t Legacy p f) in
-    omega (arith, left, count-push before (Started t Legacy p), ap length (queued-push before (Started t Legacy p)), length-append (filter_map queued_legacy before) [])
+few-step l before (Started t Legacy p) f h = grind (arith, nat_tests, (some_left (count_by is_legacy_start before) (filter_map queued_legacy before) p (started_is l before t Legacy p f)), (count_by is_legacy_start before), (filter_map queued_legacy before), (started_is l before t Legacy p f), (count-push before (Started t Legacy p)), (queued-push before (Started t Legacy p)), (length-append (filter_map queued_legacy before) []))
 
 pub few_started : (l : LinkLimits) (log : List Entry) → IsLegal l log → FewStarted log
 few_started l log g = legal-all l FewStarted (omega arith) (few-step l) log g
@@ -67,21 +65,13 @@ rate-same l before e n h from to k = subst (λ ss. costs l (filter (is_between f
 
 rate-started : (l : LinkLimits) (ss : List Start) (s : Start) (from to : ℕ) → AreBy s.time ss → debt l ss s.time ≤ cap l → cost_at l s ≤ cap l - debt l ss s.time
     → costs l (filter (is_between from to) ss) ≤ cap l + (to - from) → costs l (filter (is_between from to) (ss ++ s ∷ [])) ≤ cap l + (to - from)
-rate-started l ss s from to b d c h =
-    subst (λ z. costs l z ≤ cap l + (to - from)) (sym (filter-append (is_between from to) ss (s ∷ [])))
-    (by_between from to s (λ w. costs l (filter (is_between from to) ss ++ cond w (s ∷ []) []) ≤ cap l + (to - from))
-    (λ lo hi. omega (arith, sum_by_push (cost_at l) (filter (is_between from to) ss) s, costs_owed l ss from to s.time b))
-    (subst (λ z. costs l z ≤ cap l + (to - from)) (sym (append-nil (filter (is_between from to) ss))) h))
+rate-started l ss s from to b d c h = grind (arith, nat_tests, (filter-append (is_between from to) ss (s ∷ [])), by_between, (sum_by_push (cost_at l) (filter (is_between from to) ss) s), (costs_owed l ss from to s.time b), (append-nil (filter (is_between from to) ss)))
 
 kept-step : (l : LinkLimits) (before : List Entry) (e : Entry) → Follows l before e → IsKept l before → IsKept l (before ++ e ∷ [])
 kept-step l before (Queued t c k p) f h = (rate-same l before (Queued t c k p) refl h.0, capped-step l before (Queued t c k p) f h.1)
 kept-step l before (Started t Regular p) f h = (rate-same l before (Started t Regular p) refl h.0, capped-step l before (Started t Regular p) f h.1)
 kept-step l before (Started t Legacy p) f h = (rate-same l before (Started t Legacy p) refl h.0, capped-step l before (Started t Legacy p) f h.1)
-kept-step l before (Started t Request p) f h = (
-  λ from to k. subst (λ ss. costs l (filter (is_between from to) ss) ≤ cap l + (to - from)) (sym (starts-push before (Started t Request p)))
-      (rate-started l (request_starts before) (start t (packet_length p)) from to (starts_by t before f.order) (h.1 t f.order) (request_paid l before t p f) (h.0 from to k)),
-  capped-step l before (Started t Request p) f h.1,
-)
+kept-step l before (Started t Request p) f h = grind (arith, nat_tests, (starts-push before (Started t Request p)), (rate-started l (request_starts before) (start t (packet_length p))), (starts_by t before f.order), (request_paid l before t p f), (capped-step l before (Started t Request p) f h.1))
 
 pub rate_kept : (l : LinkLimits) (log : List Entry) → IsLegal l log → IsWithinRate l log
 rate_kept l log g = (legal-all l (IsKept l) (λ from to k. omega arith, λ now n. omega arith) (kept-step l) log g).0
@@ -103,9 +93,7 @@ pub occupies : (l : LinkLimits) (t : ℕ) (p : PacketData) → AreLinkLimits l �
 occupies l t p a = let one : 1 ≤ packet_length p = omega arith in let k = mul-le-mul one a.ns_per_byte.0 in omega (arith, k)
 
 apart-step : (l : LinkLimits) → AreLinkLimits l → (before : List Entry) (e : Entry) → Follows l before e → IsApart l before → IsApart l (before ++ e ∷ [])
-apart-step l a before (Queued t class key p) f h =
-    let same : start_times (before ++ Queued t class key p ∷ []) ≡ start_times before = times-push before (Queued t class key p) ∙ append-nil (start_times before) in
-    (subst AreRising (sym same) h.0, subst (λ ts. All (λ u. u < free_after l (before ++ Queued t class key p ∷ [])) ts) (sym same) (subst (λ n. All (λ u. u < n) (start_times before)) (sym (free-queued l 0 before t class key p)) h.1))
+apart-step l a before (Queued t class key p) f h = grind (arith, nat_tests, times-push, append-nil, free-queued)
 apart-step l a before (Started t class p) f h =
     let more = times-push before (Started t class p) in
     let past : All (λ u. u < t) (start_times before) = All-weaker (λ u. u < free_after l before) (λ u. u < t) (λ u k. omega (arith, f.free)) (start_times before) h.1 in

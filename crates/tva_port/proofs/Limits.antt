@@ -1,5 +1,5 @@
 -- What waits after a legal log is within the limits of each class.
-use Rattle.tva_port.proofs.Common.{◌≡◌, ℕ, ◌+◌, ◌≤◌, ◌<◌, Bool, true, false, cond, List, [], ◌∷◌, ◌++◌, length, drop, Option, Some, None, refl, sym, ap, ◌∙◌, subst, arith, nat_tests, sum_by-cons, sum_by_push, DrrLimits, LinkLimits, Class, Request, Regular, Legacy, AreDrrLimits, AreClassLimits, AreLinkLimits, PacketData, packet_length, Fair, fair, has_key, items_of, bytes_in, all_bytes, lacks_queue, lacks_room, put, offer_leaves, take_leaves, IsFair, offer_cases, inner_key_of, Hier, hier, lacks_place, lacks_space, put_under, left_by_offer, left_keeps, hier_taken, RequestQueues, OneLevel, TwoLevels, none_under, request_leaves, request_taken, Entry, Queued, Started, Waiting, waiting_after, lacks_legacy_room, Follows, AllFollow, IsLegal, AreWithin, IsWithinLimits, StaysWithinLimits, put_leaves, start_leaves}
+use Rattle.tva_port.proofs.Common.{◌≡◌, ℕ, ◌+◌, ◌≤◌, ◌<◌, Bool, true, false, cond, List, [], ◌∷◌, ◌++◌, length, drop, Option, refl, ap, ◌∙◌, subst, arith, nat_tests, sum_by-cons, sum_by_push, DrrLimits, LinkLimits, Class, AreDrrLimits, AreClassLimits, AreLinkLimits, PacketData, packet_length, Fair, fair, has_key, items_of, bytes_in, all_bytes, lacks_queue, lacks_room, put, offer_leaves, take_leaves, IsFair, offer_cases, inner_key_of, Hier, hier, lacks_place, lacks_space, put_under, left_by_offer, left_keeps, hier_taken, RequestQueues, OneLevel, TwoLevels, none_under, request_leaves, request_taken, Entry, Queued, Started, Waiting, waiting_after, lacks_legacy_room, Follows, AllFollow, IsLegal, AreWithin, IsWithinLimits, StaysWithinLimits, put_leaves, start_leaves}
 use Rattle.std.proofs.lemmas.List.{length-append}
 use Rattle.tva_drr.proofs.Keeps.{fair-put, fair-taken}
 use Rattle.tva_port.proofs.Logs.{FewStarted, legal-all, legal-front}
@@ -7,14 +7,7 @@ use Rattle.tva_port.proofs.Legality.{few-step}
 use Rattle.tva_port.proofs.Waits.{waits-queued, waits-started}
 
 pub class_limits : (l : DrrLimits) → AreClassLimits l → AreDrrLimits l
-class_limits l a = record {
-  queues = (a.queues.0, omega (arith, a.queues.1));
-  ring = (a.ring.0, omega (arith, a.ring.1));
-  queue_bytes = a.queue_bytes.1;
-  class_bytes = a.class_bytes.1;
-  max = omega (arith, a.max);
-  quantum = (omega (arith, a.max, a.quantum.0), omega (arith, a.quantum.1));
-}
+class_limits l a = grind (arith, nat_tests)
 
 abbrev Stays : DrrLimits → Fair PacketData → Type 0
 Stays l f = IsFair packet_length f × (f.limits ≡ l)
@@ -50,14 +43,7 @@ pub within-offered : (l : LinkLimits) (rs : RequestQueues) (key : ℕ) (p : Pack
     → (20 ≤ packet_length p) × (packet_length p ≤ 2048) → AreWithin l rs → AreWithin l (request_leaves rs key p)
 within-offered l (OneLevel f) key p a z w = let s = stays-offered l.request f key p a.request z (w.1, w.2) in
     (w.0, s.0, s.1)
-within-offered l (TwoLevels h) key p a z w =
-    let most : h.limits.max ≡ 2048 = ap (λ (x : DrrLimits). x.max) w.2 ∙ a.request.max in
-    let same = left_same h key (inner_key_of p) p in (
-      w.0 ∙ ap (λ n. Some n) (sym same.1),
-      left_keeps packet_length h key (inner_key_of p) p w.1
-          (omega arith, omega (arith, most)),
-      same.0 ∙ w.2,
-    )
+within-offered l (TwoLevels h) key p a z w = grind (arith, nat_tests, (left_same h key (inner_key_of p) p), (left_keeps packet_length h key (inner_key_of p) p w.1))
 
 pub within-taken : (l : LinkLimits) (rs : RequestQueues) → AreWithin l rs → AreWithin l (request_taken rs)
 within-taken l (OneLevel f) w = let s = stays-taken l.request f (w.1, w.2) in (w.0, s.0, s.1)
@@ -65,23 +51,10 @@ within-taken l (TwoLevels h) w = (w.0, hier_taken packet_length h.limits h.inner
 
 within_none : (l : LinkLimits) (inner : Option ℕ) → l.request_inner ≡ inner → AreLinkLimits l
     → AreWithin l (none_under l.request inner)
-within_none l None e a = (e, (fair_empty l.request a.request).0, refl)
-within_none l (Some n) e a =
-    let i = a.request_inner n e in (
-      e,
-      record {
-        limits = class_limits l.request a.request;
-        inner =
-            (i.0, omega (arith, i.1));
-        groups = record { few = omega arith; each = tt; turn = tt; bytes = omega arith };
-      },
-      refl,
-    )
+within_none l inner e a = grind (arith, nat_tests, fair_empty)
 
 legacy_room : (l : LinkLimits) (xs : List PacketData) (p : PacketData) → lacks_legacy_room l xs p ≡ false → (length (xs ++ p ∷ []) ≤ l.legacy_ring) × (bytes_in packet_length (xs ++ p ∷ []) ≤ l.legacy_bytes)
-legacy_room l xs p h =
-    let k : (length xs + 1 ≤ l.legacy_ring) × (bytes_in packet_length xs + packet_length p ≤ l.legacy_bytes) = (grind (arith, nat_tests), grind (arith, nat_tests)) in
-    (omega (arith, k.0, length-append xs (p ∷ [])), omega (arith, k.1, sum_by_push packet_length xs p))
+legacy_room l xs p h = grind (arith, nat_tests, length-append xs (p ∷ []), sum_by_push packet_length xs p)
 
 legacy_kept : (l : LinkLimits) (xs : List PacketData) (p : PacketData) (b : Bool) → lacks_legacy_room l xs p ≡ b → (length xs ≤ l.legacy_ring) × (bytes_in packet_length xs ≤ l.legacy_bytes) → (length (cond b xs (xs ++ p ∷ [])) ≤ l.legacy_ring) × (bytes_in packet_length (cond b xs (xs ++ p ∷ [])) ≤ l.legacy_bytes)
 legacy_kept l xs p true e h = h
@@ -92,22 +65,10 @@ legacy_less l [] h = h
 legacy_less l (x ∷ xs) h = (omega arith, omega (arith, h.1, sum_by-cons packet_length x xs))
 
 pub within-queued : (l : LinkLimits) (w : Waiting) (class : Class) (key : ℕ) (p : PacketData) → AreLinkLimits l → (20 ≤ packet_length p) × (packet_length p ≤ 2048) → IsWithinLimits l w → IsWithinLimits l (put_leaves l w class key p)
-within-queued l w Request key p a z h = record {
-  requests = within-offered l w.requests key p a z h.requests;
-  regulars = h.regulars;
-  legacy = h.legacy;
-}
-within-queued l w Regular key p a z h = record { requests = h.requests; regulars = stays-offered l.regular w.regulars key p a.regular z h.regulars; legacy = h.legacy }
-within-queued l w Legacy key p a z h = record { requests = h.requests; regulars = h.regulars; legacy = legacy_kept l w.legacy p (lacks_legacy_room l w.legacy p) refl h.legacy }
+within-queued l w class key p a z h = grind (arith, within-offered l w.requests key p a z, stays-offered l.regular w.regulars key p a.regular z, legacy_kept l w.legacy p)
 
 pub within-started : (l : LinkLimits) (w : Waiting) (class : Class) → IsWithinLimits l w → IsWithinLimits l (start_leaves class w)
-within-started l w Request h = record {
-  requests = within-taken l w.requests h.requests;
-  regulars = h.regulars;
-  legacy = h.legacy;
-}
-within-started l w Regular h = record { requests = h.requests; regulars = stays-taken l.regular w.regulars h.regulars; legacy = h.legacy }
-within-started l w Legacy h = record { requests = h.requests; regulars = h.regulars; legacy = legacy_less l w.legacy h.legacy }
+within-started l w class h = grind (arith, within-taken l w.requests, stays-taken l.regular w.regulars, legacy_less l w.legacy)
 
 abbrev IsBounded : LinkLimits → List Entry → Type 0
 IsBounded l log = IsWithinLimits l (waiting_after l log) × FewStarted log
@@ -119,14 +80,7 @@ bounded-step l a before (Started t class p) f h =
     (subst (λ (w : Waiting). IsWithinLimits l w) (waits-started l before t class p) (within-started l (waiting_after l before) class h.0), few-step l before (Started t class p) f h.1)
 
 pub begins : (l : LinkLimits) → AreLinkLimits l → IsBounded l []
-begins l a = (
-  record {
-    requests = within_none l l.request_inner refl a;
-    regulars = fair_empty l.regular a.regular;
-    legacy = (omega arith, omega arith);
-  },
-  omega arith,
-)
+begins l a = grind (arith, nat_tests, within_none, fair_empty)
 
 pub stays_within : (l : LinkLimits) (log : List Entry) → AreLinkLimits l → IsLegal l log → StaysWithinLimits l log
 stays_within l log a g = λ before rest e. (legal-all l (IsBounded l) (begins l a) (bounded-step l a) before (legal-front l [] before rest (subst (λ z. AllFollow l [] z) e g))).0

@@ -1,5 +1,5 @@
 -- What one more entry changes of what a log comes to.
-use Rattle.tva_port.proofs.Common.{◌≡◌, ℕ, ◌+◌, ◌*◌, ◌≤◌, ◌<◌, false, cond, ltb, List, [], ◌∷◌, ◌++◌, length, drop, refl, sym, ap, ◌∙◌, subst, inl, inr, zero, suc, arith, append-nil, append_assoc, fold, filter_map, count_by, leb_tells, drop-append-le, sum_by_push, filter_map-append, filter-append, All-nil, All-cons, All-head, All-tail, All-push, All-weaker, LinkLimits, Class, Request, Regular, Legacy, PacketData, packet_length, Fair, fair, offer_leaves, take_leaves, RequestQueues, no_requests, Entry, Queued, Started, entry_time, NoneLater, entries_before, request_start, request_starts, free_from, request_step, regular_step, class_step, queued_legacy, is_legacy_start, legacy_after, Follows, AllFollow, IsLegal}
+use Rattle.tva_port.proofs.Common.{◌≡◌, ℕ, ◌+◌, ◌*◌, ◌≤◌, ◌<◌, false, cond, ltb, List, [], ◌∷◌, ◌++◌, length, drop, refl, sym, ap, ◌∙◌, subst, zero, suc, arith, append-nil, append_assoc, fold, filter_map, count_by, drop-append-le, sum_by_push, filter_map-append, filter-append, All-nil, All-cons, All-head, All-tail, All-push, All-weaker, LinkLimits, Class, Legacy, PacketData, packet_length, Fair, fair, offer_leaves, take_leaves, RequestQueues, no_requests, Entry, Queued, Started, entry_time, NoneLater, entries_before, request_start, request_starts, free_from, request_step, regular_step, class_step, queued_legacy, is_legacy_start, legacy_after, Follows, AllFollow, IsLegal, nat_tests}
 use Rattle.tva_port.specs.Requests.{Start}
 use Rattle.tva_port.proofs.Debts.{AreBy}
 
@@ -18,10 +18,7 @@ later-front time (d ∷ ds) e n =
     (All-cons (λ (x : Entry). entry_time x ≤ time) d ds (All-head (λ (x : Entry). entry_time x ≤ time) d (ds ++ e ∷ []) n) r.0, r.1)
 
 starts_one : (time : ℕ) (e : Entry) (ss : List Start) → entry_time e ≤ time → AreBy time ss → AreBy time (request_starts (e ∷ []) ++ ss)
-starts_one time (Queued t c k p) ss h b = b
-starts_one time (Started t Request p) ss h b = (h, b)
-starts_one time (Started t Regular p) ss h b = b
-starts_one time (Started t Legacy p) ss h b = b
+starts_one time e ss h b = grind arith
 
 pub starts_by : (time : ℕ) (log : List Entry) → NoneLater time log → AreBy time (request_starts log)
 starts_by time [] n = tt
@@ -32,22 +29,11 @@ starts_by time (e ∷ es) n =
 -- all entries are before a later time
 pub entries_before-all : (time until : ℕ) (log : List Entry) → time < until → NoneLater time log → entries_before until log ≡ log
 entries_before-all time until [] h n = refl
-entries_before-all time until (e ∷ es) h n =
-    let first : entry_time e ≤ time = All-head (λ (x : Entry). entry_time x ≤ time) e es n in
-    let rest = entries_before-all time until es h (All-tail (λ (x : Entry). entry_time x ≤ time) e es n) in
-    elim (leb_tells (suc (entry_time e)) until) [
-      | inl k ↦ subst (λ b. cond b (e ∷ entries_before until es) (entries_before until es) ≡ e ∷ es) (sym k.0) (ap (λ (z : List Entry). e ∷ z) rest)
-      | inr k ↦ absurd (omega (arith, k.1))
-    ]
+entries_before-all time until (e ∷ es) h n = grind (arith, nat_tests, All-head (λ (x : Entry). entry_time x ≤ time) e es n, entries_before-all time until es h (All-tail (λ (x : Entry). entry_time x ≤ time) e es n))
 
 -- an entry that is no earlier is cut away
 pub entries_before-push : (until : ℕ) (log : List Entry) (e : Entry) → until ≤ entry_time e → entries_before until (log ++ e ∷ []) ≡ entries_before until log
-entries_before-push until log e h =
-    filter-append (λ (x : Entry). ltb (entry_time x) until) log (e ∷ []) ∙
-    elim (leb_tells (suc (entry_time e)) until) [
-      | inl k ↦ absurd (omega (arith, k.1))
-      | inr k ↦ subst (λ b. entries_before until log ++ cond b (e ∷ []) [] ≡ entries_before until log) (sym k.0) (append-nil (entries_before until log))
-    ]
+entries_before-push until log e h = grind (arith, nat_tests, filter-append (λ (x : Entry). ltb (entry_time x) until) log (e ∷ []), append-nil (entries_before until log))
 
 -- ## sums
 
@@ -102,21 +88,11 @@ count-push log e = sum_by_push (λ (x : Entry). cond (is_legacy_start x) 1 0) lo
 pub queued-push : (log : List Entry) (e : Entry) → filter_map queued_legacy (log ++ e ∷ []) ≡ filter_map queued_legacy log ++ filter_map queued_legacy (e ∷ [])
 queued-push log e = filter_map-append queued_legacy log (e ∷ [])
 
-same_drop : {A : Type 0} (n m : ℕ) (xs ys : List A) → n ≡ m → xs ≡ ys → drop n xs ≡ drop m ys
-same_drop n m xs ys e h = cc
-
 pub legacy-same : (log : List Entry) (e : Entry) → is_legacy_start e ≡ false → filter_map queued_legacy (e ∷ []) ≡ [] → legacy_after (log ++ e ∷ []) ≡ legacy_after log
-legacy-same log e n q =
-    same_drop (count_by is_legacy_start (log ++ e ∷ [])) (count_by is_legacy_start log) (filter_map queued_legacy (log ++ e ∷ [])) (filter_map queued_legacy log)
-    (count-push log e ∙ (ap (λ b. count_by is_legacy_start log + cond b 1 0) n ∙ omega arith))
-    (queued-push log e ∙ (ap (λ (z : List PacketData). filter_map queued_legacy log ++ z) q ∙ append-nil (filter_map queued_legacy log)))
+legacy-same log e n q = grind (arith, count-push log e, queued-push log e, append-nil (filter_map queued_legacy log))
 
 pub legacy-queued : (log : List Entry) (t k : ℕ) (p : PacketData) → FewStarted log → legacy_after (log ++ Queued t Legacy k p ∷ []) ≡ legacy_after log ++ p ∷ []
-legacy-queued log t k p f =
-    same_drop (count_by is_legacy_start (log ++ Queued t Legacy k p ∷ [])) (count_by is_legacy_start log) (filter_map queued_legacy (log ++ Queued t Legacy k p ∷ [])) (filter_map queued_legacy log ++ p ∷ [])
-    (count-push log (Queued t Legacy k p) ∙ omega arith)
-    (queued-push log (Queued t Legacy k p))
-    ∙ drop-append-le (count_by is_legacy_start log) (filter_map queued_legacy log) (p ∷ []) f
+legacy-queued log t k p f = grind (arith, count-push log (Queued t Legacy k p), queued-push log (Queued t Legacy k p), drop-append-le (count_by is_legacy_start log) (filter_map queued_legacy log) (p ∷ []))
 
 drop_more : {A : Type 0} (n : ℕ) (xs : List A) → drop (suc n) xs ≡ drop 1 (drop n xs)
 drop_more zero xs = refl
@@ -124,11 +100,7 @@ drop_more (suc n) [] = refl
 drop_more (suc n) (x ∷ xs) = drop_more n xs
 
 pub legacy-started : (log : List Entry) (t : ℕ) (p : PacketData) → legacy_after (log ++ Started t Legacy p ∷ []) ≡ drop 1 (legacy_after log)
-legacy-started log t p =
-    same_drop (count_by is_legacy_start (log ++ Started t Legacy p ∷ [])) (suc (count_by is_legacy_start log)) (filter_map queued_legacy (log ++ Started t Legacy p ∷ [])) (filter_map queued_legacy log)
-    (count-push log (Started t Legacy p) ∙ omega arith)
-    (queued-push log (Started t Legacy p) ∙ append-nil (filter_map queued_legacy log))
-    ∙ drop_more (count_by is_legacy_start log) (filter_map queued_legacy log)
+legacy-started log t p = grind (arith, count-push log (Started t Legacy p), queued-push log (Started t Legacy p), append-nil (filter_map queued_legacy log), drop_more (count_by is_legacy_start log) (filter_map queued_legacy log))
 
 -- ## legal logs
 

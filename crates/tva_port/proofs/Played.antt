@@ -1,5 +1,5 @@
 -- The worked logs, entry by entry.
-use Rattle.tva_port.proofs.Common.{◌≡◌, ◌≤◌, ℕ, ◌+◌, ◌*◌, Bool, true, false, ◌&&◌, leb, max, List, [], ◌∷◌, ◌++◌, Option, Some, None, IfSome, refl, sym, subst, arith, append-nil, leb-true, All-nil, LinkLimits, Class, Request, Regular, Legacy, AreClassLimits, AreLinkLimits, PacketData, packet_length, layout, two_bytes, eight_bytes, Start, WaitUntil, Entry, Queued, Started, NoneLater, entry_time, free_after, waiting_after, queue_answer, decision, MissesNone, IsLegal}
+use Rattle.tva_port.proofs.Common.{◌≡◌, ◌≤◌, ℕ, ◌+◌, ◌*◌, Bool, true, false, ◌&&◌, leb, max, List, [], ◌∷◌, ◌++◌, Option, Some, None, IfSome, refl, sym, subst, arith, append-nil, leb-true, All-nil, LinkLimits, Class, Request, Regular, Legacy, AreClassLimits, AreLinkLimits, PacketData, packet_length, layout, two_bytes, eight_bytes, Start, WaitUntil, Entry, Queued, Started, NoneLater, entry_time, free_after, waiting_after, queue_answer, decision, MissesNone, IsLegal, nat_tests}
 use Rattle.tva_drr.specs.declared.offered.Offered.TheVariants as offers
 use Rattle.tva_port.specs.Worked.{worked_class, worked_link, three_queues, regulars_queued, burst_started, regulars_started, long, short, two_levels, requests_queued, requests_started, tagged}
 use Rattle.tva_port.proofs.Logs.{later-push, later-weaker, goes_on-push}
@@ -18,9 +18,7 @@ both false b e = absurd (cc)
 
 -- the first is at most the second, which is at most the third
 in_order : (a b c : ℕ) → (leb a b && leb b c) ≡ true → (a ≤ b) × (b ≤ c)
-in_order a b c e =
-    let h = both (leb a b) (leb b c) e in
-    (leb-true a b h.0, leb-true b c h.1)
+in_order a b c e = grind (arith, nat_tests, leb-true)
 
 module _ {l : LinkLimits} {log : List Entry} {last until : ℕ} where
   -- a packet that is queued
@@ -71,30 +69,14 @@ nothing : (l : LinkLimits) → IsPlayed l [] 0 0
 nothing l = record { legal = tt; past = All-nil (λ e. entry_time e ≤ 0); missed = misses_empty l 0 }
 
 class_valid : (queues : ℕ) → (1 ≤ queues) × (queues ≤ 65536) → AreClassLimits (worked_class queues)
-class_valid queues h = record {
-  queues = h;
-  ring = (omega arith, omega arith);
-  queue_bytes = (omega arith, omega arith);
-  class_bytes = (omega arith, omega arith);
-  max = refl;
-  quantum = (omega arith, omega arith);
-}
+class_valid queues h = grind (arith, nat_tests)
 
 inner_valid : (o : Option ℕ) → IfSome o (λ n. (1 ≤ n) × (n ≤ 65536)) → (inner : ℕ) → o ≡ Some inner → (1 ≤ inner) × (inner ≤ 65536)
 inner_valid None h inner e = absurd (cc)
 inner_valid (Some n) h inner e = let k : n ≡ inner = cc in subst (λ z. (1 ≤ z) × (z ≤ 65536)) k h
 
 link_valid : (queues : ℕ) (inner : Option ℕ) → (1 ≤ queues) × (queues ≤ 65536) → IfSome inner (λ n. (1 ≤ n) × (n ≤ 65536)) → AreLinkLimits (worked_link queues inner)
-link_valid queues inner h k = record {
-  ns_per_byte = (omega arith, omega arith);
-  share = (omega arith, omega arith);
-  burst = (omega arith, omega arith);
-  request = class_valid queues h;
-  regular = class_valid queues h;
-  legacy_ring = (omega arith, omega arith);
-  legacy_bytes = (omega arith, omega arith);
-  request_inner = inner_valid inner k;
-}
+link_valid queues inner h k = grind (arith, nat_tests, class_valid, inner_valid)
 
 pub three_valid : AreLinkLimits three_queues
 three_valid = link_valid 3 None (omega arith, omega arith) tt

@@ -1,5 +1,5 @@
 -- A regular packet that is queued starts within its bound.
-use Rattle.tva_port.proofs.Common.{◌≡◌, ℕ, ◌+◌, ◌-◌, ◌*◌, ◌<◌, ◌≤◌, true, max, List, [], ◌∷◌, ◌++◌, length, Some, None, refl, sym, ap, ◌∙◌, subst, inl, inr, arith, append-nil, append_assoc, mul_assoc, mul-le-mul_right, add-mul, mul_comm, cases_lt, LinkLimits, Class, Request, Regular, Legacy, AreLinkLimits, PacketData, packet_length, bytes_in, most_until, RequestQueues, OneLevel, request_taken, cost, cap, debt, start, Entry, Queued, Started, entry_time, NoneLater, request_starts, free_after, waiting_after, regular_step, RestsAt, MissesNone, Follows, AllFollow, IsStarted, IsLegal, waiting_with, bytes_with, regular_bound, AreServed, StartsBy}
+use Rattle.tva_port.proofs.Common.{◌≡◌, ℕ, ◌+◌, ◌-◌, ◌*◌, ◌<◌, ◌≤◌, max, List, [], ◌∷◌, ◌++◌, length, Some, None, refl, sym, ap, ◌∙◌, subst, inl, inr, arith, append-nil, append_assoc, mul_assoc, mul-le-mul_right, add-mul, mul_comm, cases_lt, LinkLimits, Class, Request, Regular, Legacy, AreLinkLimits, PacketData, packet_length, bytes_in, most_until, RequestQueues, OneLevel, request_taken, cost, cap, debt, start, Entry, Queued, Started, entry_time, NoneLater, request_starts, free_after, waiting_after, regular_step, RestsAt, MissesNone, Follows, AllFollow, IsStarted, IsLegal, waiting_with, bytes_with, regular_bound, AreServed, StartsBy, nat_tests}
 use Rattle.tva_drr.proofs.Ceil.{ceil_times}
 use Rattle.tva_port.proofs.Debts.{AreBy, debt-later, debt-push}
 use Rattle.tva_port.proofs.Logs.{legal-front, legal-here, later-push, later-weaker, later-front, starts_by, starts-push, starts-same, free-queued, free-started, regulars-push, goes_on-push}
@@ -37,11 +37,7 @@ less_one : (x d : ℕ) → 1 ≤ d → x * d ≡ x * (d - 1) + x
 less_one x d h = let e : d ≡ d - 1 + 1 = omega arith in ap (λ z. x * z) e ∙ (mul_comm x (d - 1 + 1) ∙ (add-mul (d - 1) 1 x ∙ (ap (λ z. z + 1 * x) (mul_comm (d - 1) x) ∙ omega arith)))
 
 le_by : (x y d : ℕ) → 1 ≤ d → x * d ≤ y * d → x ≤ y
-le_by x y d h k =
-    elim (cases_lt y x) [
-      | inl z ↦ absurd (let m = mul-le-mul_right d (let s : y + 1 ≤ x = omega arith in s) in omega (arith, m, k, add-mul y 1 d))
-      | inr z ↦ z
-    ]
+le_by x y d h k = grind (arith, nat_tests, cases_lt, mul-le-mul_right, add-mul)
 
 module _ (l : LinkLimits) (key : ℕ) (p : PacketData) (begin most : ℕ) (a : AreLinkLimits l) where
   -- the link doesn't rest while the packet waits
@@ -54,11 +50,7 @@ module _ (l : LinkLimits) (key : ℕ) (p : PacketData) (begin most : ℕ) (a : A
 
   -- so nothing comes later than the link is ready
   comes_by : (log : List Entry) (before : List PacketData) (sent asked time from s : ℕ) → Serving l key p begin most log before sent asked time from → ((v : ℕ) → time ≤ v → v < s → RestsAt l log v) → s ≤ ready l begin log
-  comes_by log before sent asked time from s w r =
-      elim (cases_lt (ready l begin log) s) [
-        | inl y ↦ absurd (no_rest log (ready l begin log) w.legal (waits key p most (regulars l log) before sent w.tracks) (r (ready l begin log) w.steady y) (omega arith))
-        | inr y ↦ y
-      ]
+  comes_by log before sent asked time from s w r = grind (arith, cases_lt (ready l begin log) s, no_rest log (ready l begin log) w.legal (waits key p most (regulars l log) before sent w.tracks), r (ready l begin log) w.steady)
 
   stays : (log : List Entry) (before : List PacketData) (sent : ℕ) (e : Entry) → IsLegal l log
       → Tracks key p most (OneLevel (regular_step (waiting_after l log).regulars e)) before sent
@@ -141,11 +133,7 @@ module _ (l : LinkLimits) (key : ℕ) (p : PacketData) (begin most : ℕ) (a : A
 
   -- the requests that started cost at most a burst and the time
   paid_by : (log : List Entry) (before : List PacketData) (sent asked time from : ℕ) → Serving l key p begin most log before sent asked time from → cost l asked ≤ cap l + (ready l begin log - begin)
-  paid_by log before sent asked time from w =
-      let late : NoneLater (max time from) log = later-weaker time (max time from) log (omega arith) w.past in
-      let capped = debt_capped l log w.legal (max time from) late in
-      let faded = debt-later l (request_starts log) from (max time from) w.starts (omega arith) in
-      omega (arith, w.paid, capped, faded, w.free, w.steady, w.since)
+  paid_by log before sent asked time from w = grind (arith, nat_tests, (later-weaker time (max time from) log (omega arith) w.past), (debt_capped l log w.legal (max time from)), (debt-later l (request_starts log) from (max time from) w.starts (omega arith)))
 
   -- the link is ready within the bound
   in_time : (log : List Entry) (before : List PacketData) (sent asked time from bytes t : ℕ) → Serving l key p begin most log before sent asked time from → most ≡ most_until l.regular bytes → begin ≤ t + 2048 * l.ns_per_byte → ready l begin log ≤ t + regular_bound l bytes
@@ -246,6 +234,4 @@ regular_bounded l before after t key p until a g m k =
     (sym (append_assoc before (e ∷ []) after)) (legal_rest l before e after g) (omega arith) w)
 
 pub regulars_served : (l : LinkLimits) (log : List Entry) (now until : ℕ) → AreLinkLimits l → IsLegal l log → MissesNone l until log → now < until → AreServed l Regular (regular_bound l) now log
-regulars_served l log now until a g m k = λ before later time key bound packet same e h.
-    subst (λ z. StartsBy l Regular key packet (before ++ Queued time Regular key packet ∷ []) later z) (sym e)
-    (regular_bounded l before later time key packet until a (subst (λ z. IsLegal l z) same g) (subst (λ z. MissesNone l until z) same m) (omega (arith, e, h)))
+regulars_served l log now until a g m k = grind (arith, nat_tests, regular_bounded)

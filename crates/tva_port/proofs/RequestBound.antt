@@ -1,5 +1,5 @@
 -- A request that is queued starts within its bound.
-use Rattle.tva_port.proofs.Common.{◌≡◌, ℕ, ◌+◌, ◌-◌, ◌*◌, ◌<◌, ◌≤◌, max, List, [], ◌∷◌, ◌++◌, length, Some, None, refl, sym, ap, ◌∙◌, subst, inl, inr, ◌⊎◌, arith, append-nil, append_assoc, mul-le-mul_right, cases_lt, LinkLimits, Class, Request, Regular, Legacy, AreLinkLimits, PacketData, packet_length, bytes_in, RequestQueues, next_in, request_taken, cost, cap, debt, start, Entry, Queued, Started, entry_time, NoneLater, request_starts, free_after, waiting_after, covered, credit_after, RestsAt, MissesNone, Follows, AllFollow, IsStarted, IsLegal, waiting_with, bytes_with, requests_until, request_bound, AreServed, StartsBy}
+use Rattle.tva_port.proofs.Common.{◌≡◌, ℕ, ◌+◌, ◌-◌, ◌*◌, ◌<◌, ◌≤◌, max, List, [], ◌∷◌, ◌++◌, length, Some, None, refl, sym, ap, ◌∙◌, subst, inl, inr, ◌⊎◌, arith, append-nil, append_assoc, mul-le-mul_right, cases_lt, LinkLimits, Class, Request, Regular, Legacy, AreLinkLimits, PacketData, packet_length, bytes_in, RequestQueues, next_in, request_taken, cost, cap, debt, start, Entry, Queued, Started, entry_time, NoneLater, request_starts, free_after, waiting_after, covered, credit_after, RestsAt, MissesNone, Follows, AllFollow, IsStarted, IsLegal, waiting_with, bytes_with, requests_until, request_bound, AreServed, StartsBy, nat_tests}
 use Rattle.tva_port.proofs.Debts.{AreBy, debt-later, debt-push}
 use Rattle.tva_port.proofs.Logs.{legal-front, legal-here, later-push, later-weaker, later-front, starts_by, starts-push, starts-same, requests-push, free-queued, free-started, goes_on-push}
 use Rattle.tva_port.proofs.Deciding.{lacking, covered_pays}
@@ -55,20 +55,12 @@ module _ (l : LinkLimits) (key : ℕ) (p : PacketData) (begin most : ℕ) (a : A
   lacks : (log : List Entry) (before : List PacketData) (sent v : ℕ) → IsLegal l log
       → Tracks key p most (requests l log) before sent → RestsAt l log v → free_after l log ≤ v
       → cap l < debt_at l log v + next_cost l log
-  lacks log before sent v g t r f =
-      let n = next_within log before sent g t in
-      let o = (resting_at l log v (rests_free l log v r f)).requests in
-      let k : credit_after l log v < cost l (packet_length n.0) = lacking l (credit_after l log v) n.0 (subst (λ z. covered l (credit_after l log v) z ≡ None) n.1.0 o) in
-      omega (arith, k, ap (λ z. cost l z) n.1.1.0)
+  lacks log before sent v g t r f = grind (arith, nat_tests, (next_within log before sent g t), (resting_at l log v (rests_free l log v r f)), (rests_free l log v r f), lacking)
 
   -- up to a later time
   idle_to : (log : List Entry) (before : List PacketData) (sent time from later : ℕ) → Serving l key p begin most log before sent time from → ((v : ℕ) → time ≤ v → v < later → RestsAt l log v)
       → (v : ℕ) → ready l begin log ≤ v → v < later → cap l < debt_at l log v + next_cost l log
-  idle_to log before sent time from later s r v h k =
-      elim (cases_lt v time) [
-        | inl y ↦ s.idle v h y
-        | inr y ↦ lacks log before sent v s.legal s.tracks (r v y k) (omega arith)
-      ]
+  idle_to log before sent time from later s r v h k = grind (arith, cases_lt v time, s.idle v h, lacks log before sent v s.legal s.tracks, r v)
 
   -- what is owed at a time at which the link is ready, where it rested up to then
   owed_at : (log : List Entry) (before : List PacketData) (sent time from s : ℕ) → Serving l key p begin most log before sent time from → ready l begin log ≤ s → ((v : ℕ) → ready l begin log ≤ v → v < s → cap l < debt_at l log v + next_cost l log)
@@ -92,37 +84,15 @@ module _ (l : LinkLimits) (key : ℕ) (p : PacketData) (begin most : ℕ) (a : A
       → Tracks key p most (requests l later) before sent → free_after l later ≡ free_after l log
       → request_starts later ≡ request_starts log → bytes_next (requests l later) ≡ bytes_next (requests l log)
       → ((v : ℕ) → ready l begin log ≤ v → v < s → cap l < debt_at l log v + next_cost l log) → Serving l key p begin most later before sent s from
-  serving-same log later before sent time from s w t g n x k f ss h i = record {
-    legal = g;
-    past = n;
-    exact = x;
-    tracks = k;
-    begun = omega (arith, w.begun, f);
-    since = w.since;
-    free = omega (arith, w.free, f);
-    starts = subst (λ z. AreBy from z) (sym ss) w.starts;
-    owed = omega (arith, w.owed, ap (λ z. debt l z from) ss);
-    busy = omega (arith, w.busy, f);
-    idle = λ v r e. (let j = i v (omega (arith, r, f)) e in omega (arith, j, ap (λ z. debt l z v) ss, ap (λ z. cost l z) h));
-  }
+  serving-same log later before sent time from s w t g n x k f ss h i = grind (arith, nat_tests)
 
   queued_leaves : (log : List Entry) (before : List PacketData) (sent s : ℕ) (c : Class) (k : ℕ) (x : PacketData)
       → IsLegal l log → Tracks key p most (requests l log) before sent
       → Tracks key p most (requests l (log ++ Queued s c k x ∷ [])) before sent ×
       (bytes_next (requests l (log ++ Queued s c k x ∷ [])) ≡ bytes_next (requests l log))
-  queued_leaves log before sent s Request k x g t =
-      let v = kept_within l (requests l log) (within l log a g).requests in
-      subst (λ z. Tracks key p most z before sent × (bytes_next z ≡ bytes_next (requests l log)))
-      (sym (requests-push l log (Queued s Request k x))) (
-        tracks-offer key p most (requests l log) before sent k x v t,
-        next-offer key p (requests l log) k x v (waits key p most (requests l log) before sent t),
-      )
-  queued_leaves log before sent s Regular k x g t =
-      subst (λ z. Tracks key p most z before sent × (bytes_next z ≡ bytes_next (requests l log)))
-      (sym (requests-push l log (Queued s Regular k x))) (t, refl)
-  queued_leaves log before sent s Legacy k x g t =
-      subst (λ z. Tracks key p most z before sent × (bytes_next z ≡ bytes_next (requests l log)))
-      (sym (requests-push l log (Queued s Legacy k x))) (t, refl)
+  queued_leaves log before sent s Request k x g t = grind (arith, nat_tests, (kept_within l (requests l log) (within l log a g).requests), (requests-push l log (Queued s Request k x)), (tracks-offer key p most (requests l log) before sent k x), (next-offer key p (requests l log) k x), (waits key p most (requests l log) before sent t))
+  queued_leaves log before sent s Regular k x g t = grind (arith, nat_tests, requests-push)
+  queued_leaves log before sent s Legacy k x g t = grind (arith, nat_tests, requests-push)
 
   -- a packet is queued
   queued : (log : List Entry) (before : List PacketData) (sent time from s : ℕ) (c : Class) (k : ℕ) (x : PacketData) → Serving l key p begin most log before sent time from → Follows l log (Queued s c k x)
@@ -303,6 +273,4 @@ request_bounded l before after t key p until a g m k =
     (sym (append_assoc before (e ∷ []) after)) (legal_rest l before e after g) (omega arith) w)
 
 pub requests_served : (l : LinkLimits) (log : List Entry) (now until : ℕ) → AreLinkLimits l → IsLegal l log → MissesNone l until log → now < until → AreServed l Request (request_bound l) now log
-requests_served l log now until a g m k = λ before later time key bound packet same e h.
-    subst (λ z. StartsBy l Request key packet (before ++ Queued time Request key packet ∷ []) later z) (sym e)
-    (request_bounded l before later time key packet until a (subst (λ z. IsLegal l z) same g) (subst (λ z. MissesNone l until z) same m) (omega (arith, e, h)))
+requests_served l log now until a g m k = grind (arith, nat_tests, request_bounded)

@@ -1,9 +1,10 @@
 -- When nothing starts: up to the end of a start, while a request waits, and while nothing waits.
-use Rattle.tva_port.proofs.Common.{◌≡◌, ℕ, ◌+◌, ◌-◌, ◌≤◌, ◌<◌, min, false, List, [], ◌++◌, Option, Some, None, refl, sym, ap, ◌∙◌, subst, inl, inr, suc, arith, append-nil, mul-le-mul_right, leb_tells, LinkLimits, AreLinkLimits, Time, PacketData, packet_length, Decision, Start, WaitUntil, Idle, cost, cap, next_in, Entry, Started, NoneLater, entries_before, request_starts, Waiting, waiting_after, covered, wait_for, decision, decide_on, credit_after, is_start, started_by, RestsAt, MissesNone, NoneDueBefore, IsFirstCovered, IsLegal, freed}
+use Rattle.tva_port.proofs.Common.{◌≡◌, ℕ, ◌+◌, ◌-◌, ◌≤◌, ◌<◌, min, false, List, [], ◌++◌, Option, Some, None, refl, sym, ap, ◌∙◌, subst, inl, inr, suc, arith, append-nil, mul-le-mul_right, leb_tells, LinkLimits, AreLinkLimits, Time, PacketData, packet_length, Decision, WaitUntil, Idle, cost, cap, next_in, Entry, NoneLater, entries_before, request_starts, Waiting, waiting_after, covered, wait_for, decision, decide_on, credit_after, is_start, started_by, RestsAt, MissesNone, NoneDueBefore, IsFirstCovered, IsLegal, freed, nat_tests}
 use Rattle.tva_port.proofs.Debts.{debt-later}
 use Rattle.tva_port.proofs.Logs.{later-push, starts_by, entries_before-all, entries_before-push, free-started}
 use Rattle.tva_port.proofs.Deciding.{Rests, none_starts, rests_is, rests_no_start, lacking, not_covered}
 use Rattle.tva_port.proofs.Legality.{debt_capped}
+pub use Rattle.tva_port.proofs.Hands.{same_packet as same_head}
 
 -- the credit grows by one each nanosecond, up to the cap
 pub credit-later : (l : LinkLimits) (log : List Entry) (now time : ℕ) → IsLegal l log → NoneLater now log → now ≤ time → credit_after l log time ≡ min (cap l) (credit_after l log now + (time - now))
@@ -28,11 +29,7 @@ no_start_later l log credit time r h = still l (waiting_after l log) credit (cre
 
 -- a decision to wait tells the request at the head, and until when it waits
 pub wait_is : (l : LinkLimits) (credit now : ℕ) (o : Option PacketData) (u : Time) → wait_for l credit now o ≡ WaitUntil u → (p : PacketData) × ((o ≡ Some p) × (u.0 ≡ now + (cost l (packet_length p) - credit)))
-wait_is l credit now None u e = absurd (cc)
-wait_is l credit now (Some p) u e =
-    let t : Time = record { 0 = now + (cost l (packet_length p) - credit) } in
-    let k : t ≡ u = cc in
-    (p, (refl, ap (λ (x : Time). x.0) (sym k)))
+wait_is l credit now o u e = grind (arith, nat_tests)
 
 pub idle_is : (l : LinkLimits) (credit now : ℕ) (o : Option PacketData) → wait_for l credit now o ≡ Idle → o ≡ None
 idle_is l credit now None e = refl
@@ -43,54 +40,33 @@ pub resting : (l : LinkLimits) (log : List Entry) (now : ℕ) → is_start (deci
     → Rests l (waiting_after l log) (credit_after l log now) ×
     (decision l log now ≡ wait_for l (credit_after l log now) now (next_in (waiting_after l log).requests))
 unfolding decision
-resting l log now e =
-    let r = none_starts l (waiting_after l log) (credit_after l log now) now e in
-    (r, rests_is l (waiting_after l log) (credit_after l log now) now r)
+resting l log now e = grind (arith, nat_tests, (none_starts l (waiting_after l log) (credit_after l log now) now e), (rests_is l (waiting_after l log) (credit_after l log now) now))
 
 -- before the wait is over, the request's cost isn't covered
 pub lacks_before : (l : LinkLimits) (log : List Entry) (now time u : ℕ) (p : PacketData) → IsLegal l log → NoneLater now log → u ≡ now + (cost l (packet_length p) - credit_after l log now) → now ≤ time → time < u → credit_after l log time < cost l (packet_length p)
 lacks_before l log now time u p g n e h k = omega (arith, credit-later l log now time g n h)
 
-pub same_head : (o : Option PacketData) (p q : PacketData) → o ≡ Some p → o ≡ Some q → p ≡ q
-same_head o p q e f = cc
-
 none_or_some : (o : Option PacketData) (q : PacketData) → o ≡ None → o ≡ Some q → ⊥
 none_or_some o q e f = cc
 
 waits_until : (l : LinkLimits) (log : List Entry) (now time : ℕ) (u : Time) → IsLegal l log → NoneLater now log → WaitUntil u ≡ decision l log now → now ≤ time → time < u.0 → is_start (decision l log time) ≡ false
-waits_until l log now time u g n e h k =
-    let r = resting l log now (ap is_start (sym e)) in
-    let w = wait_is l (credit_after l log now) now (next_in (waiting_after l log).requests) u (sym r.1 ∙ sym e) in
-    no_start_later l log (credit_after l log now) time r.0
-    (λ q hq. subst (λ x. credit_after l log time < cost l (packet_length x))
-    (same_head (next_in (waiting_after l log).requests) w.0 q w.1.0 hq)
-    (lacks_before l log now time u.0 w.0 g n w.1.1 h k))
+waits_until l log now time u g n e h k = grind (arith, nat_tests, (resting l log now (ap is_start (sym e))), wait_is, no_start_later, (same_head (next_in (waiting_after l log).requests)), (lacks_before l log now time u.0))
 
 stays_idle : (l : LinkLimits) (log : List Entry) (now time : ℕ) → Idle ≡ decision l log now → is_start (decision l log time) ≡ false
-stays_idle l log now time e =
-    let r = resting l log now (ap is_start (sym e)) in
-    no_start_later l log (credit_after l log now) time r.0
-    (λ q hq. absurd (none_or_some (next_in (waiting_after l log).requests) q
-    (idle_is l (credit_after l log now) now (next_in (waiting_after l log).requests) (sym r.1 ∙ sym e)) hq))
+stays_idle l log now time e = grind (arith, nat_tests, resting, no_start_later, none_or_some, idle_is)
 
 pub rests_same : (l : LinkLimits) (log : List Entry) (time : ℕ) → is_start (decision l log time) ≡ false → RestsAt l (log ++ []) time
 rests_same l log time e = subst (λ z. RestsAt l z time) (sym (append-nil log)) (inr e)
 
 -- nothing starts before the next decision is due
 pub rests : (l : LinkLimits) (log : List Entry) (now free : ℕ) (d : Decision) (until time : ℕ) → IsLegal l log → NoneLater now log → d ≡ decision l log now → NoneDueBefore d (freed l free now d) until → now ≤ time → time < until → RestsAt l (log ++ started_by d now) time
-rests l log now free (Start class p) until time g n e i h k = inl (subst (λ z. time < z) (sym (free-started l 0 log now class p)) (omega arith))
-rests l log now free (WaitUntil u) until time g n e i h k = rests_same l log time (waits_until l log now time u g n e h (omega arith))
-rests l log now free Idle until time g n e i h k = rests_same l log time (stays_idle l log now time e)
+rests l log now free d until time g n e i h k = grind (arith, nat_tests, free-started, rests_same, waits_until, stays_idle)
 
 pub cut_away : (log : List Entry) (d : Decision) (until now : ℕ) → until ≤ now → entries_before until (log ++ started_by d now) ≡ entries_before until log
-cut_away log (Start class p) until now h = entries_before-push until log (Started now class p) h
-cut_away log (WaitUntil u) until now h = ap (λ z. entries_before until z) (append-nil log)
-cut_away log Idle until now h = ap (λ z. entries_before until z) (append-nil log)
+cut_away log d until now h = grind (arith, nat_tests, entries_before-push, append-nil)
 
 pub none_later : (log : List Entry) (d : Decision) (now : ℕ) → NoneLater now log → NoneLater now (log ++ started_by d now)
-none_later log (Start class p) now n = later-push now log (Started now class p) n (omega arith)
-none_later log (WaitUntil u) now n = subst (λ z. NoneLater now z) (sym (append-nil log)) n
-none_later log Idle now n = subst (λ z. NoneLater now z) (sym (append-nil log)) n
+none_later log d now n = grind (arith, nat_tests, later-push, append-nil)
 
 -- so no start is missed up to then
 pub misses : (l : LinkLimits) (log : List Entry) (now free : ℕ) (d : Decision) (until : ℕ) → IsLegal l log → NoneLater now log → d ≡ decision l log now → MissesNone l now log → NoneDueBefore d (freed l free now d) until → MissesNone l until (log ++ started_by d now)

@@ -1,8 +1,8 @@
 -- How many packets wait at a port: one more once one is queued, one less once one starts, and never more than there
 -- are places. So a port for packets by value has memory for each that it takes, and room for each that it gives.
-use Rattle.tva_port.proofs.Common.{◌≡◌, ℕ, suc, ◌+◌, ◌-◌, ◌*◌, ◌≤◌, Bool, true, false, cond, leb, List, [], ◌∷◌, ◌++◌, length, drop, Some, refl, sym, ap, ◌∙◌, subst, inl, inr, length-append, arith, Option, None, append-nil, mul-le-mul_right, add-mul, leb_tells, sum_by-cons, sum_by_push, DrrLimits, LinkLimits, Class, Request, Regular, Legacy, PacketData, packet_length, inner_key_of, Offered, Queue, queue, Fair, fair, first, head, bytes_in, queue_bytes, all_bytes, lacks_queue, lacks_room, offer_answer, offer_leaves, refilled, popped, settled, front_settled, taken, AreQueues, IsFair, first_bytes, head_bytes, all_bytes-put, Group, Hier, group, inner_limits, fair_of, group_bytes, all_group_bytes, next, lacks_group, lacks_place, lacks_space, answer_to_offer, left_by_offer, group_refilled, group_settled, groups_taken, AreGroups, IsHier, none_true, bytes-changed, offered_is, left_queued, RequestQueues, OneLevel, TwoLevels, Decision, Start, WaitUntil, Idle, next_in, request_answer, request_leaves, request_taken, none_under, Waiting, lacks_legacy_room, queue_answer, is_queued, waiting_after, queued_by, decide_on, decision, started_by, credit_after, AreWithin, IsWithinLimits, put_leaves, start_leaves, decision_leaves, AreLinkLimits, Answer, AreOneAnswer, AreOneDecision, answer_by, decision_by, IsLegal, Entry, PortData, StandsFor}
+use Rattle.tva_port.proofs.Common.{◌≡◌, ℕ, suc, ◌+◌, ◌-◌, ◌*◌, ◌≤◌, Bool, true, false, cond, leb, List, [], ◌∷◌, ◌++◌, length, drop, Some, refl, sym, ap, ◌∙◌, subst, inl, inr, length-append, arith, Option, None, append-nil, mul-le-mul_right, add-mul, leb_tells, sum_by-cons, sum_by_push, DrrLimits, LinkLimits, Class, Request, Regular, Legacy, PacketData, packet_length, inner_key_of, Offered, Queue, queue, Fair, fair, first, head, bytes_in, queue_bytes, all_bytes, lacks_queue, lacks_room, offer_answer, offer_leaves, refilled, popped, settled, front_settled, taken, AreQueues, IsFair, first_bytes, head_bytes, all_bytes-put, Group, Hier, group, inner_limits, fair_of, group_bytes, all_group_bytes, next, lacks_group, lacks_place, lacks_space, answer_to_offer, left_by_offer, group_refilled, group_settled, groups_taken, AreGroups, IsHier, none_true, bytes-changed, offered_is, left_queued, RequestQueues, OneLevel, TwoLevels, Decision, Start, WaitUntil, Idle, next_in, request_answer, request_leaves, request_taken, none_under, Waiting, lacks_legacy_room, queue_answer, is_queued, waiting_after, queued_by, decide_on, decision, started_by, credit_after, AreWithin, IsWithinLimits, put_leaves, start_leaves, decision_leaves, AreLinkLimits, Answer, AreOneAnswer, AreOneDecision, answer_by, decision_by, IsLegal, Entry, PortData, StandsFor, nat_tests}
 use Rattle.tva_drr.specs.declared.offered.Offered.TheVariants as offers
-use Rattle.tva_port.specs.Counts.{one, count_of, request_count, waiting_count, queued_count, started_count, places_under, request_places, places_in, hand_count, StockData}
+use Rattle.tva_port.specs.Counts.{one, count_of, request_count, waiting_count, queued_count, started_count, request_places, places_in, hand_count, StockData}
 use Rattle.tva_port.proofs.Deciding.{next_of, start_is, covered_pays}
 use Rattle.tva_port.proofs.Standing.{refused_leaves}
 use Rattle.tva_port.specs.declared.hand.Answer.TheVariants as answers
@@ -15,9 +15,7 @@ use Rattle.tva_port.proofs.Waits.{puts_or, waits-queued, waits-started}
 
 -- an offer that is queued passed both tests
 pub queued_tests : {T : Type 0} (b c : Bool) (x : T) → cond b (offers.NoQueue x) (cond c (offers.QueueFull x) offers.Queued) ≡ offers.Queued → (b ≡ false) × (c ≡ false)
-queued_tests true c x e = absurd (cc)
-queued_tests false true x e = absurd (cc)
-queued_tests false false x e = (refl, refl)
+queued_tests b c x e = grind (arith, nat_tests)
 
 -- ## sums by one measure, where another decides what offers and takes leave
 
@@ -40,9 +38,7 @@ module _ {T : Type 0} (measure count : T → ℕ) where
   sum-served : (quantum key deficit : ℕ) (xs : List T) (qs : List (Queue T)) (x : T) → first xs ≡ Some x
       → all_bytes count (front_settled measure quantum (popped measure key deficit xs ∷ qs)) + count x ≡ all_bytes count (queue key deficit xs ∷ qs)
   sum-served quantum key deficit [] qs x e = absurd (cc)
-  sum-served quantum key deficit (y ∷ ys) qs x e =
-      let m : count y ≡ count x = cc in
-      omega (arith, sum-settled quantum key (deficit - measure y) ys qs, sum_by-cons (queue_bytes count) (queue key deficit (y ∷ ys)) qs, sum_by-cons count y ys)
+  sum-served quantum key deficit (y ∷ ys) qs x e = grind (arith, nat_tests, (sum-settled quantum key (deficit - measure y) ys qs), (sum_by-cons (queue_bytes count) (queue key deficit (y ∷ ys)) qs), (sum_by-cons count y ys))
 
   pub sum-taken : (quantum : ℕ) (qs : List (Queue T)) (x : T) → head qs ≡ Some x → all_bytes count (taken measure quantum qs) + count x ≡ all_bytes count qs
   sum-taken quantum [] x e = absurd (cc)
@@ -68,12 +64,7 @@ module _ {T : Type 0} (measure count : T → ℕ) where
 
   pub sum-groups_taken : (quantum : ℕ) (gs : List (Group T)) (x : T) → next gs ≡ Some x → all_group_bytes count (groups_taken measure quantum gs) + count x ≡ all_group_bytes count gs
   sum-groups_taken quantum [] x e = absurd (cc)
-  sum-groups_taken quantum (g ∷ gs) x e = omega (
-    arith,
-    groups-settled quantum g.key (g.deficit - head_bytes measure g.queues.queues) g.queues.limits (taken measure g.queues.limits.quantum g.queues.queues) gs,
-    sum-taken g.queues.limits.quantum g.queues.queues x e,
-    sum_by-cons (group_bytes count) g gs,
-  )
+  sum-groups_taken quantum (g ∷ gs) x e = grind (arith, nat_tests, (groups-settled quantum g.key (g.deficit - head_bytes measure g.queues.queues) g.queues.limits (taken measure g.queues.limits.quantum g.queues.queues) gs), (sum-taken g.queues.limits.quantum g.queues.queues x e), (sum_by-cons (group_bytes count) g gs))
 
   pub sum-offered_under : (h : Hier T) (outer inner : ℕ) (x : T) → answer_to_offer measure h outer inner x ≡ offers.Queued → all_group_bytes count (left_by_offer measure h outer inner x).groups ≡ all_group_bytes count h.groups + count x
   sum-offered_under h outer inner x e =
@@ -86,32 +77,21 @@ module _ {T : Type 0} (measure count : T → ℕ) where
 -- ## a packet that is queued
 
 request-queued : (rs : RequestQueues) (key : ℕ) (p : PacketData) → request_answer rs key p ≡ offers.Queued → request_count (request_leaves rs key p) ≡ request_count rs + 1
-request-queued (OneLevel f) key p e =
-    let t = queued_tests (lacks_queue f key) (lacks_room packet_length f key p) p e in
-    sum-offered packet_length one f key p t.0 t.1
+request-queued (OneLevel f) key p e = grind (arith, nat_tests, (queued_tests (lacks_queue f key) (lacks_room packet_length f key p) p e), (sum-offered packet_length one f key p))
 request-queued (TwoLevels h) key p e = sum-offered_under packet_length one h key (inner_key_of p) p e
 
 queued_is : (a : Offered PacketData) → is_queued a ≡ true → a ≡ offers.Queued
-queued_is offers.Queued e = refl
-queued_is (offers.NoQueue p) e = absurd (cc)
-queued_is (offers.QueueFull p) e = absurd (cc)
+queued_is a e = grind arith
 
 none_queued : (a : Offered PacketData) → is_queued a ≡ false → queued_count a ≡ 0
-none_queued offers.Queued e = absurd (cc)
-none_queued (offers.NoQueue p) e = refl
-none_queued (offers.QueueFull p) e = refl
+none_queued a e = grind arith
 
 request-put : (l : LinkLimits) (w : Waiting) (key : ℕ) (p : PacketData) (b : Bool) → is_queued (request_answer w.requests key p) ≡ b → waiting_count (put_leaves l w Request key p) ≡ waiting_count w + queued_count (request_answer w.requests key p)
-request-put l w key p true e =
-    let q = queued_is (request_answer w.requests key p) e in
-    omega (arith, request-queued w.requests key p q, ap queued_count q)
+request-put l w key p true e = grind (arith, nat_tests, queued_is, request-queued)
 request-put l w key p false e = omega (arith, ap (λ z. waiting_count z) (refused_leaves l w Request key p e), none_queued (request_answer w.requests key p) e)
 
 regular-put : (l : LinkLimits) (w : Waiting) (key : ℕ) (p : PacketData) (b : Bool) → is_queued (offer_answer packet_length w.regulars key p) ≡ b → waiting_count (put_leaves l w Regular key p) ≡ waiting_count w + queued_count (offer_answer packet_length w.regulars key p)
-regular-put l w key p true e =
-    let q = queued_is (offer_answer packet_length w.regulars key p) e in
-    let t = queued_tests (lacks_queue w.regulars key) (lacks_room packet_length w.regulars key p) p q in
-    omega (arith, sum-offered packet_length one w.regulars key p t.0 t.1, ap queued_count q)
+regular-put l w key p true e = grind (arith, nat_tests, (queued_is (offer_answer packet_length w.regulars key p) e), (queued_tests (lacks_queue w.regulars key) (lacks_room packet_length w.regulars key p) p), (sum-offered packet_length one w.regulars key p))
 regular-put l w key p false e = omega (arith, ap (λ z. waiting_count z) (refused_leaves l w Regular key p e), none_queued (offer_answer packet_length w.regulars key p) e)
 
 legacy-put : (b : Bool) (xs : List PacketData) (p : PacketData) → length (cond b xs (xs ++ p ∷ [])) ≡ length xs + queued_count (cond b (offers.QueueFull p) offers.Queued)
@@ -135,9 +115,7 @@ legacy-started [] p e = absurd (cc)
 legacy-started (x ∷ xs) p e = omega arith
 
 class-started : (l : LinkLimits) (w : Waiting) (credit : ℕ) (class : Class) (p : PacketData) → next_of l w credit class ≡ Some p → waiting_count (start_leaves class w) + 1 ≡ waiting_count w
-class-started l w credit Request p e = omega (arith, request-started w.requests p (covered_pays l credit (next_in w.requests) p e).0)
-class-started l w credit Regular p e = omega (arith, sum-taken packet_length one w.regulars.limits.quantum w.regulars.queues p e)
-class-started l w credit Legacy p e = omega (arith, legacy-started w.legacy p e)
+class-started l w credit class p e = grind (arith, covered_pays l credit (next_in w.requests) p, request-started w.requests p, sum-taken packet_length one w.regulars.limits.quantum w.regulars.queues p, legacy-started w.legacy p)
 
 -- what waits after a decision, with what starts, is what waited
 pub count-started : (l : LinkLimits) (w : Waiting) (credit now : ℕ) (d : Decision) → d ≡ decide_on l w credit now → waiting_count (decision_leaves d w) + started_count d ≡ waiting_count w
@@ -168,12 +146,7 @@ pub hier-few : (h : Hier PacketData) → IsHier packet_length h → all_group_by
 hier-few h i = omega (arith, groups-few h.limits h.inner h.groups i.groups.each, mul-le-mul_right (h.inner * h.limits.ring) i.groups.few)
 
 pub request-few : (l : LinkLimits) (rs : RequestQueues) → AreWithin l rs → request_count rs ≤ request_places l
-request-few l (OneLevel f) w =
-    subst (λ o. count_of f ≤ places_under l.request o) (sym w.0)
-    (subst (λ (z : DrrLimits). count_of f ≤ z.queues * z.ring) w.2 (fair-few f w.1))
-request-few l (TwoLevels h) w =
-    subst (λ o. all_group_bytes one h.groups ≤ places_under l.request o) (sym w.0)
-    (subst (λ (z : DrrLimits). all_group_bytes one h.groups ≤ z.queues * (h.inner * z.ring)) w.2 (hier-few h w.1))
+request-few l rs w = grind (arith, nat_tests, fair-few, hier-few)
 
 pub regular-few : (l : LinkLimits) (f : Fair PacketData) → IsFair packet_length f → f.limits ≡ l.regular → count_of f ≤ l.regular.queues * l.regular.ring
 regular-few l f h e = subst (λ (z : DrrLimits). count_of f ≤ z.queues * z.ring) e (fair-few f h)
@@ -196,14 +169,7 @@ waits_none l = omega (arith, no_count l.request l.request_inner)
 pub waits_more : (l : LinkLimits) (log : List Entry) (now : ℕ) (class : Class) (key : ℕ) (p : PacketData) → IsLegal l log
     → waiting_count (waiting_after l (log ++ queued_by (queue_answer l (waiting_after l log) class key p) now class key p))
     ≡ waiting_count (waiting_after l log) + queued_count (queue_answer l (waiting_after l log) class key p)
-waits_more l log now class key p legal = elim (puts_or l (waiting_after l log) class key p) [
-  | inl e ↦ ap (λ (a : Offered PacketData). waiting_count (waiting_after l (log ++ queued_by a now class key p))) e
-      ∙ (ap (λ (w : Waiting). waiting_count w) (sym (waits-queued l log now class key p (few_started l log legal) e))
-      ∙ count-put l (waiting_after l log) class key p)
-  | inr h ↦ ap (λ (es : List Entry). waiting_count (waiting_after l (log ++ es))) (h.1 now)
-      ∙ (ap (λ (es : List Entry). waiting_count (waiting_after l es)) (append-nil log)
-      ∙ (ap (λ (w : Waiting). waiting_count w) (sym h.0) ∙ count-put l (waiting_after l log) class key p))
-]
+waits_more l log now class key p legal = grind (arith, nat_tests, (puts_or l (waiting_after l log) class key p), (waits-queued l log now class key p (few_started l log legal)), (few_started l log legal), (count-put l (waiting_after l log) class key p), (append-nil log))
 
 -- one less where it starts
 pub waits_less : (l : LinkLimits) (log : List Entry) (now : ℕ) (d : Decision) → d ≡ decision l log now
@@ -221,20 +187,10 @@ waits_few l log ok legal = count-few l (waiting_after l log) (stays_within l log
 -- ## what a hand holds
 
 pub hand_offered : (answer : Answer) (hand : Option PacketData) → AreOneAnswer answer hand → hand_count hand + queued_count (answer_by answer hand) ≡ 1
-hand_offered answers.Queued None h = refl
-hand_offered answers.Queued (Some p) h = absurd (cc)
-hand_offered answers.NoQueue None h = absurd (cc)
-hand_offered answers.NoQueue (Some p) h = refl
-hand_offered answers.QueueFull None h = absurd (cc)
-hand_offered answers.QueueFull (Some p) h = refl
+hand_offered answer hand h = grind arith
 
 pub hand_decided : (next : Next) (hand : Option PacketData) → AreOneDecision next hand → hand_count hand ≡ started_count (decision_by next hand)
-hand_decided (nexts.Start class) None h = absurd (cc)
-hand_decided (nexts.Start class) (Some p) h = refl
-hand_decided (nexts.WaitUntil time) None h = refl
-hand_decided (nexts.WaitUntil time) (Some p) h = absurd (cc)
-hand_decided nexts.Idle None h = refl
-hand_decided nexts.Idle (Some p) h = absurd (cc)
+hand_decided next hand h = grind arith
 
 -- ## the stock
 
@@ -275,23 +231,7 @@ pub stocked_decided : (v z : PortData) (now : ℕ) (d : Decision) (stock left : 
     → ((log : List Entry) → StandsFor v log → d ≡ decision v.limits log now)
     → ((log : List Entry) → StandsFor v log → StandsFor z (log ++ started_by d now))
     → left.count ≡ stock.count + started_count d → left.room ≡ stock.room → IsStocked z left
-stocked_decided v z now d stock left s e decides stands g h =
-    let new = stands s.log s.stands in
-    let less : waiting_count z.waiting + started_count d ≡ waiting_count v.waiting =
-    omega (
-      arith,
-      count_is z (s.log ++ started_by d now) new,
-      ap (λ (m : LinkLimits). waiting_count (waiting_after m (s.log ++ started_by d now))) e,
-      waits_less v.limits s.log now d (decides s.log s.stands),
-      count_is v s.log s.stands,
-    ) in
-    record {
-      log = s.log ++ started_by d now;
-      stands = new;
-      limits = subst AreLinkLimits (sym e) s.limits;
-      count = omega (arith, s.count, g, less, ap places_in e);
-      room = omega (arith, s.room, h, ap places_in e);
-    }
+stocked_decided v z now d stock left s e decides stands g h = grind (arith, nat_tests, count_is, waits_less)
 
 -- there is room for what starts
 pub has_room : (v : PortData) (now : ℕ) (d : Decision) (stock : StockData) → IsStocked v stock

@@ -1,6 +1,6 @@
 -- A packet that waits in its queue, and the bytes of its class that go before it, in queues of one level or of two:
 -- regular packets wait in queues of one level, and requests in those of their link.
-use Rattle.tva_port.proofs.Common.{◌≡◌, ℕ, ◌+◌, ◌≤◌, true, false, cond, List, [], ◌∷◌, ◌++◌, length, Option, Some, refl, sym, ap, ◌∙◌, subst, inl, inr, ◌⊎◌, arith, append_assoc, sum_by-cons, sum_by_push, DrrLimits, LinkLimits, Class, Request, Regular, Legacy, PacketData, packet_length, inner_key_of, Queue, Fair, fair, has_key, items_of, bytes_in, head, put, lacks_queue, lacks_room, offer_leaves, taken, AreQueues, IsFair, is_front, first_bytes, head_bytes, most_until, by_key, goes_last, goes_first, by_test, taken_falls, ahead-offer, ahead_most, offer_cases, has_from_items, some_head, Hier, items_under, fair_of, left_by_offer, IsHier, head_some, head-put, left_last, next_some, next_there, groups_there, next-offered, taken_under, next_ahead, RequestQueues, OneLevel, TwoLevels, next_in, request_leaves, request_taken, requests_with, are_next, Entry, waiting_after, AreWithin, IsWithinLimits, requests_until}
+use Rattle.tva_port.proofs.Common.{◌≡◌, ℕ, ◌+◌, ◌≤◌, true, false, cond, List, [], ◌∷◌, ◌++◌, length, Some, refl, sym, ap, ◌∙◌, subst, inl, inr, ◌⊎◌, arith, append_assoc, sum_by-cons, sum_by_push, DrrLimits, LinkLimits, Class, Request, Regular, Legacy, PacketData, packet_length, inner_key_of, Queue, Fair, fair, has_key, items_of, bytes_in, head, put, lacks_queue, lacks_room, offer_leaves, taken, AreQueues, IsFair, is_front, first_bytes, head_bytes, most_until, goes_last, goes_first, by_test, taken_falls, ahead-offer, ahead_most, offer_cases, has_from_items, some_head, Hier, items_under, fair_of, left_by_offer, IsHier, head_some, head-put, left_last, next_some, next_there, groups_there, next-offered, taken_under, next_ahead, RequestQueues, OneLevel, TwoLevels, next_in, request_leaves, request_taken, requests_with, are_next, Entry, waiting_after, AreWithin, IsWithinLimits, requests_until, nat_tests}
 use Rattle.std.specs.Bool.{MatchBool}
 use Rattle.tva_drr.specs.Order.{GoesLast}
 use Rattle.tva_drr.specs.Ahead.{bytes_ahead}
@@ -25,9 +25,7 @@ same_fair f d e = ap (λ (z : DrrLimits). fair z f.queues) e
 pub regulars-step : (l : LinkLimits) (log : List Entry) (e : Entry) → IsWithinLimits l (waiting_after l log)
     → (waiting_after l (log ++ e ∷ [])).regulars.queues ≡
     (fair_step Regular (fair l.regular (waiting_after l log).regulars.queues) e).queues
-regulars-step l log e w =
-    ap (λ (f : Fair PacketData). f.queues) (regulars-push l log e)
-    ∙ ap (λ (f : Fair PacketData). (fair_step Regular f e).queues) (same_fair (waiting_after l log).regulars l.regular w.regulars.1)
+regulars-step l log e w = grind (arith, nat_tests, (regulars-push l log e), (same_fair (waiting_after l log).regulars l.regular w.regulars.1))
 
 pub regulars_now : (l : LinkLimits) (log : List Entry) → IsWithinLimits l (waiting_after l log)
     → IsFair packet_length (fair l.regular (waiting_after l log).regulars.queues)
@@ -65,11 +63,7 @@ most_in (TwoLevels h) bytes = most_until_under h.limits h.inner bytes
 
 pub most_of_requests : (l : LinkLimits) (rs : RequestQueues) (r : ℕ) → AreWithin l rs
     → most_in rs r ≡ requests_until l.request l.request_inner r
-most_of_requests l (OneLevel f) r w = subst (λ (o : Option ℕ). most_until f.limits r ≡ requests_until l.request o r)
-    (sym w.0) (ap (λ z. most_until z r) w.2)
-most_of_requests l (TwoLevels h) r w =
-    subst (λ (o : Option ℕ). most_until_under h.limits h.inner r ≡ requests_until l.request o r)
-    (sym w.0) (ap (λ z. most_until_under z h.inner r) w.2)
+most_of_requests l rs r w = grind arith
 
 -- ## one packet
 
@@ -82,9 +76,7 @@ next_le : (p : PacketData) (xs ys zs : List PacketData) → zs ≡ xs ++ p ∷ y
     → first_bytes packet_length zs ≤ bytes_in packet_length (xs ++ p ∷ [])
 next_le p [] ys zs e = subst (λ ws. first_bytes packet_length ws ≤ bytes_in packet_length (p ∷ [])) (sym e)
     (omega (arith, sum_by-cons packet_length p []))
-next_le p (x ∷ xs) ys zs e = subst
-    (λ ws. first_bytes packet_length ws ≤ bytes_in packet_length (x ∷ (xs ++ p ∷ []))) (sym e)
-    (omega (arith, sum_by-cons packet_length x (xs ++ p ∷ [])))
+next_le p (x ∷ xs) ys zs e = grind (arith, nat_tests, (sum_by-cons packet_length x (xs ++ p ∷ [])))
 
 module _ (key : ℕ) (p : PacketData) where
   -- something waits under its keys
@@ -93,17 +85,12 @@ module _ (key : ℕ) (p : PacketData) where
   Waits (TwoLevels h) = has_key (inner_key_of p) (fair_of h key).queues ≡ true
 
   there : (rs : RequestQueues) (xs ys : List PacketData) → requests_with rs key p ≡ xs ++ p ∷ ys → Waits rs
-  there (OneLevel f) xs ys e = has_from_items key f.queues
-      (subst (λ zs. 1 ≤ length zs) (sym e) (some_items p xs ys))
-  there (TwoLevels h) xs ys e = has_from_items (inner_key_of p) (fair_of h key).queues
-      (subst (λ zs. 1 ≤ length zs) (sym e) (some_items p xs ys))
+  there rs xs ys e = grind (arith, nat_tests, has_from_items, some_items)
 
   -- there is a next packet, which an offer leaves
   pub next_is : (rs : RequestQueues) → AreKept rs → Waits rs
       → (x : PacketData) × ((next_in rs ≡ Some x) × (bytes_next rs ≡ packet_length x))
-  next_is (OneLevel f) v w = some_head packet_length f.limits f.queues v.queues key w
-  next_is (TwoLevels h) v w = next_there packet_length h.limits h.inner h.groups v
-      (groups_there packet_length h.limits h.inner key (inner_key_of p) h.groups w)
+  next_is rs v w = grind (arith, nat_tests, some_head, next_there, groups_there)
 
   some_queues : (qs : List (Queue PacketData)) → has_key key qs ≡ true → 1 ≤ length qs
   some_queues [] h = absurd (cc)
@@ -127,9 +114,7 @@ module _ (key : ℕ) (p : PacketData) where
 
   ahead_same : (rs : RequestQueues) (r k : ℕ) (x : PacketData) → AreKept rs → Waits rs
       → bytes_before (request_leaves rs k x) key p r ≡ bytes_before rs key p r
-  ahead_same (OneLevel f) r k x v w =
-      ap (λ (d : DrrLimits). bytes_ahead d key r (offer_leaves packet_length f k x).queues) (offer_limits f k x)
-      ∙ ahead-offer packet_length f.limits key r k x f.queues w
+  ahead_same (OneLevel f) r k x v w = grind (arith, offer_limits f k x, ahead-offer packet_length f.limits key r k x f.queues w)
   ahead_same (TwoLevels h) r k x v w =
       offer_under packet_length h.limits h.inner key (inner_key_of p) r k (inner_key_of x) x h.groups v w
 
@@ -137,20 +122,13 @@ module _ (key : ℕ) (p : PacketData) where
       → left + cond (are_next rs key p) (bytes_next rs) 0 ≡ r
       → first_bytes packet_length (requests_with (request_taken rs) key p) ≤ left
       → bytes_before (request_taken rs) key p left + bytes_next rs ≤ bytes_before rs key p r
-  ahead_falls (OneLevel f) r left v w t s m =
-      taken_falls packet_length f.limits key r left f.queues v.limits v.queues w t
-      (by_test (is_front key f.queues) (λ b. left + cond b (head_bytes packet_length f.queues) 0 ≡ r
-      → MatchBool b ((head_bytes packet_length f.queues + left ≡ r) ×
-      (first_bytes packet_length (items_of key (taken packet_length f.limits.quantum f.queues)) ≤ left)) (left ≡ r))
-      (λ _ e. (omega (arith, e), m)) (λ _ e. omega (arith, e)) s)
+  ahead_falls (OneLevel f) r left v w t s m = taken_falls packet_length f.limits key r left f.queues v.limits v.queues w t (grind (arith, nat_tests))
   ahead_falls (TwoLevels h) r left v w t s m =
       falls_under packet_length h.limits h.inner key (inner_key_of p) r left h.groups v w t (s, m)
 
   next_before : (rs : RequestQueues) (r : ℕ) → AreKept rs → Waits rs
       → first_bytes packet_length (requests_with rs key p) ≤ r → bytes_next rs ≤ bytes_before rs key p r
-  next_before (OneLevel f) r v w m = next_ahead_of packet_length f.limits key r f.queues v.queues m
-  next_before (TwoLevels h) r v w m =
-      next_ahead packet_length h.limits h.inner key (inner_key_of p) r h.groups v w m
+  next_before rs r v w m = grind (arith, nat_tests, next_ahead_of, next_ahead)
 
   most_before : (rs : RequestQueues) (r : ℕ) → AreKept rs → Waits rs → 1 ≤ r
       → bytes_before rs key p r ≤ most_in rs r
@@ -164,32 +142,12 @@ module _ (key : ℕ) (p : PacketData) where
   behind_one : (old new : Fair PacketData) (before behind : List PacketData) (k : ℕ) (x : PacketData)
       → GoesLast k x old new → items_of key old.queues ≡ before ++ p ∷ behind
       → (more : List PacketData) × (items_of key new.queues ≡ before ++ p ∷ more)
-  behind_one old new before behind k x g e =
-      by_key k key (λ _. (more : List PacketData) × (items_of key new.queues ≡ before ++ p ∷ more))
-      (λ m. (
-        behind ++ x ∷ [],
-        subst (λ z. items_of z new.queues ≡ items_of z old.queues ++ x ∷ []) m g.own
-            ∙ (ap (λ zs. zs ++ x ∷ []) e ∙ append_assoc before (p ∷ behind) (x ∷ [])),
-      ))
-      (λ n. (behind, g.others key (λ m. n (sym m)) ∙ e))
+  behind_one old new before behind k x g e = grind (arith, nat_tests, append_assoc before (p ∷ behind) (x ∷ []), g.own, g.others key)
 
   behind_two : (old new : Hier PacketData) (before behind : List PacketData) (o i : ℕ) (x : PacketData)
       → GoesLastUnder o i x old new → items_under old key (inner_key_of p) ≡ before ++ p ∷ behind
       → (more : List PacketData) × (items_under new key (inner_key_of p) ≡ before ++ p ∷ more)
-  behind_two old new before behind o i x g e =
-      let inner : ℕ = inner_key_of p in
-      let same : ((key ≡ o → inner ≡ i → ⊥) → (more : List PacketData) ×
-      (items_under new key inner ≡ before ++ p ∷ more)) = λ k. (behind, g.others key inner k ∙ e) in
-      by_key o key (λ _. (more : List PacketData) × (items_under new key inner ≡ before ++ p ∷ more))
-      (λ m. by_key i inner (λ _. (more : List PacketData) × (items_under new key inner ≡ before ++ p ∷ more))
-      (λ n. (
-        behind ++ x ∷ [],
-        subst (λ z. items_under new z inner ≡ items_under old z inner ++ x ∷ []) m
-            (subst (λ z. items_under new o z ≡ items_under old o z ++ x ∷ []) n g.own)
-            ∙ (ap (λ zs. zs ++ x ∷ []) e ∙ append_assoc before (p ∷ behind) (x ∷ [])),
-      ))
-      (λ n. same (λ _ k. n (sym k))))
-      (λ m. same (λ k _. m (sym k)))
+  behind_two old new before behind o i x g e = grind (arith, nat_tests, append_assoc before (p ∷ behind) (x ∷ []), g.own, g.others key (inner_key_of p))
 
   behind_more : (rs : RequestQueues) (before behind : List PacketData) (k : ℕ) (x : PacketData)
       → requests_with rs key p ≡ before ++ p ∷ behind
@@ -213,12 +171,7 @@ module _ (key : ℕ) (p : PacketData) where
       → MatchBool (is_front key qs) (items_of key qs ≡ x ∷ items_of key (taken packet_length d.quantum qs))
       (items_of key (taken packet_length d.quantum qs) ≡ items_of key qs)
   first_one d [] x a e = absurd (cc)
-  first_one d (q ∷ qs) x a e =
-      let new : List (Queue PacketData) = taken packet_length d.quantum (q ∷ qs) in
-      let g = goes_first packet_length d.quantum d q.key (q ∷ qs) x a refl e in
-      by_key q.key key (λ b. MatchBool b (items_of key (q ∷ qs) ≡ x ∷ items_of key new)
-      (items_of key new ≡ items_of key (q ∷ qs)))
-      (λ m. subst (λ z. items_of z (q ∷ qs) ≡ x ∷ items_of z new) m g.own) (λ n. g.others key (λ m. n (sym m)))
+  first_one d (q ∷ qs) x a e = grind (arith, nat_tests, goes_first packet_length d.quantum d q.key (q ∷ qs) x a refl)
 
   first_taken : (rs : RequestQueues) (x : PacketData) → AreKept rs → next_in rs ≡ Some x
       → MatchBool (are_next rs key p) (requests_with rs key p ≡ x ∷ requests_with (request_taken rs) key p)
@@ -243,32 +196,12 @@ module _ (key : ℕ) (p : PacketData) (most : ℕ) where
   pub tracks_first : (rs : RequestQueues) (before : List PacketData) → AreKept rs → 1 ≤ packet_length p
       → requests_with rs key p ≡ before ++ p ∷ [] → most_in rs (bytes_in packet_length (before ++ p ∷ [])) ≤ most
       → Tracks key p most rs before 0
-  tracks_first rs before v s e m = record {
-    behind = [];
-    items = e;
-    ahead = omega (
-      arith,
-      m,
-      most_before key p rs (bytes_in packet_length (before ++ p ∷ [])) v
-          (there key p rs before [] e) (omega (arith, s, sum_by_push packet_length before p)),
-    );
-  }
+  tracks_first rs before v s e m = grind (arith, nat_tests, (most_before key p rs (bytes_in packet_length (before ++ p ∷ [])) v (there key p rs before [] e) (omega (arith, s, sum_by_push packet_length before p))), (sum_by_push packet_length before p))
 
   -- an offer leaves it
   pub tracks-offer : (rs : RequestQueues) (before : List PacketData) (sent k : ℕ) (x : PacketData)
       → AreKept rs → Tracks key p most rs before sent → Tracks key p most (request_leaves rs k x) before sent
-  tracks-offer rs before sent k x v t =
-      let b = behind_more key p rs before t.behind k x t.items in
-      record {
-        behind = b.0;
-        items = b.1;
-        ahead = omega (
-          arith,
-          t.ahead,
-          ahead_same key p rs (bytes_in packet_length (before ++ p ∷ [])) k x v
-              (waits rs before sent t),
-        );
-      }
+  tracks-offer rs before sent k x v t = grind (arith, nat_tests, (behind_more key p rs before t.behind k x t.items), (ahead_same key p rs (bytes_in packet_length (before ++ p ∷ [])) k x v (waits rs before sent t)), (waits rs before sent t))
 
   -- so does a take, which leaves these before it
   tracks-taken : (rs : RequestQueues) (before next behind : List PacketData) (sent : ℕ) (x : PacketData)
@@ -277,12 +210,7 @@ module _ (key : ℕ) (p : PacketData) (most : ℕ) where
       → bytes_in packet_length (next ++ p ∷ []) + cond (are_next rs key p) (bytes_next rs) 0 ≡
       bytes_in packet_length (before ++ p ∷ [])
       → Tracks key p most (request_taken rs) next (sent + packet_length x)
-  tracks-taken rs before next behind sent x v e t i s =
-      let falls = ahead_falls key p rs (bytes_in packet_length (before ++ p ∷ []))
-      (bytes_in packet_length (next ++ p ∷ [])) v (waits rs before sent t)
-      (there key p (request_taken rs) next behind i) s
-      (next_le p next behind (requests_with (request_taken rs) key p) i) in
-      record { behind = behind; items = i; ahead = omega (arith, falls, next_length key p rs x e, t.ahead) }
+  tracks-taken rs before next behind sent x v e t i s = grind (arith, nat_tests, (ahead_falls key p rs (bytes_in packet_length (before ++ p ∷ [])) (bytes_in packet_length (next ++ p ∷ [])) v (waits rs before sent t) (there key p (request_taken rs) next behind i) s (next_le p next behind (requests_with (request_taken rs) key p) i)), (waits rs before sent t), (next_le p next behind (requests_with (request_taken rs) key p) i), (next_length key p rs x e))
 
   -- it is taken, or one before it, or one of another queue
   abbrev pub Taken : RequestQueues → List PacketData → ℕ → PacketData → Type 0
@@ -298,23 +226,7 @@ module _ (key : ℕ) (p : PacketData) (most : ℕ) where
       → Taken rs before sent x
   taken_own rs [] sent x v e n o t = let s : p ∷ t.behind ≡ x ∷ requests_with (request_taken rs) key p = sym t.items ∙ o in
       inl (n, (refl, (let k : p ≡ x = cc in sym k)))
-  taken_own rs (y ∷ rest) sent x v e n o t =
-      let s : y ∷ (rest ++ p ∷ t.behind) ≡ x ∷ requests_with (request_taken rs) key p = sym t.items ∙ o in
-      let k : y ≡ x = cc in
-      let i : rest ++ p ∷ t.behind ≡ requests_with (request_taken rs) key p = cc in
-      inr (inl (
-        n,
-        (
-          rest,
-          (
-            ap (λ z. z ∷ rest) k,
-            tracks-taken rs (y ∷ rest) rest t.behind sent x v e t (sym i)
-                (subst (λ b. bytes_in packet_length (rest ++ p ∷ []) + cond b (bytes_next rs) 0 ≡
-                bytes_in packet_length (y ∷ (rest ++ p ∷ []))) (sym n)
-                (omega (arith, next_length key p rs x e, ap packet_length k, sum_by-cons packet_length y (rest ++ p ∷ [])))),
-          ),
-        ),
-      ))
+  taken_own rs (y ∷ rest) sent x v e n o t = grind (arith, nat_tests, tracks-taken, (next_length key p rs x e), (sum_by-cons packet_length y (rest ++ p ∷ [])))
 
   pub takes : (rs : RequestQueues) (before : List PacketData) (sent : ℕ) (x : PacketData) → AreKept rs
       → next_in rs ≡ Some x → Tracks key p most rs before sent → Taken rs before sent x
@@ -334,10 +246,4 @@ module _ (key : ℕ) (p : PacketData) (most : ℕ) where
   -- the next packet is among what goes up to this one
   pub next_among : (rs : RequestQueues) (before : List PacketData) (sent : ℕ) → AreKept rs
       → Tracks key p most rs before sent → sent + bytes_next rs ≤ most
-  next_among rs before sent v t = omega (
-    arith,
-    t.ahead,
-    next_before key p rs
-        (bytes_in packet_length (before ++ p ∷ [])) v (waits rs before sent t)
-        (next_le p before t.behind (requests_with rs key p) t.items),
-  )
+  next_among rs before sent v t = grind (arith, nat_tests, next_before, waits, next_le)

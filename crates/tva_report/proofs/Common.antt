@@ -11,7 +11,7 @@ pub use Rattle.std.specs.Prelude.{◌==◌, count_by, ◌&&◌, nat_le, nat_lt, 
 pub use Rattle.std.specs.Str.{bytes_eq}
 pub use Rattle.tva_base.specs.Printable.{IsPrintable, IsLine}
 pub use Rattle.tva_base.specs.declared.event.Event.{Event}
-pub use Rattle.tva_report.specs.Ahead.{Ahead, IsNext, IsOver, bad_ahead, line_there, IsPast}
+pub use Rattle.tva_report.specs.Ahead.{Ahead, IsNext, IsOver, bad_ahead, IsPast}
 pub use Rattle.tva_report.specs.Charged.{boot_among, of_boot, charged_in, charges_in}
 pub use Rattle.tva_report.specs.Compared.{AreLines, Compared, FitsLine, Leads, StandsFor, compared, found_there, outcome}
 pub use Rattle.tva_report.specs.Differences.{first_difference, IsFirstDifference, difference_from, finding}

@@ -1,8 +1,6 @@
 -- Lemmas on comparing a report with lines.
-use Rattle.tva_report.proofs.Common.{◌≡◌, ℕ, ◌+◌, ◌≤◌, Bool, true, false, not, List, [], ◌∷◌, ◌++◌, length, cond, refl, sym, ◌∙◌, ap, arith, inl, inr, Some, None, Option, MatchOption, is_some, append-nil, ◌&&◌, nat_le, list_all, position_from, bytes_eq, cases_Bool, leb-true, All-weaker, AllPass-from_list_all, IsPrintable, Ahead, IsNext, IsOver, bad_ahead, line_there, AreLines, Compared, FitsLine, Leads, StandsFor, compared, found_there, outcome, first_difference, first_bad, is_ended_line, is_line, is_printable, pieces, report_lines}
-use Rattle.std.specs.Option.{option_map_or}
+use Rattle.tva_report.proofs.Common.{◌≡◌, ℕ, ◌+◌, ◌≤◌, Bool, true, false, not, List, [], ◌∷◌, ◌++◌, length, refl, sym, ◌∙◌, inl, inr, Some, None, Option, MatchOption, is_some, append-nil, ◌&&◌, nat_le, list_all, position_from, cases_Bool, leb-true, All-weaker, AllPass-from_list_all, IsPrintable, Ahead, IsNext, IsOver, bad_ahead, AreLines, Compared, FitsLine, StandsFor, compared, found_there, outcome, first_difference, first_bad, is_ended_line, is_line, is_printable, pieces, report_lines}
 use Rattle.tva_report.specs.declared.pieces.Piece.{Piece}
-use Rattle.tva_report.proofs.Differing.{equal_lines}
 
 pub both_true : (a b : Bool) → (a && b) ≡ true → (a ≡ true) × (b ≡ true)
 both_true false b h = absurd cc
@@ -37,14 +35,7 @@ fits_line text h =
           text (AllPass-from_list_all is_printable text outer.1);
     }
 
-pub fits_nothing : FitsLine []
-fits_nothing = record { short = omega arith; printable = λ k d l. absurd (omega arith) }
-
 -- ## one more line is expected
-
--- the piece is this line, and a line feed ends it
-abbrev pub is_this : List ℕ → Option Piece → Bool
-is_this x r = option_map_or (λ p. p.ended && bytes_eq x p.text.now) r false
 
 abbrev pub Came : Ahead → Option Piece → Ahead → Type 0
 Came before r after = MatchOption r (IsOver before after) (λ p. IsNext before p after)
@@ -55,50 +46,7 @@ lines_next before piece after next = rw (next.first, next.text) refl
 lines_over : (before after : Ahead) → IsOver before after → report_lines before.rest ≡ []
 lines_over before after over = rw over.nothing refl
 
--- the first piece is a line that a line feed ends, or it is the first that is bad
-ended_or_bad : (before : Ahead) (piece : Piece) (after : Ahead) → IsNext before piece after
-    → bad_ahead before ≡ cond (not (piece.ended && is_line piece.text.now)) (Some before.number) (bad_ahead after)
-ended_or_bad before piece after next = rw (next.first, next.ended, next.text, next.next) refl
-
-pub line_passed : (before : Ahead) (wanted : Option (List ℕ)) (r : Option Piece) (after : Ahead) (x : List ℕ) → is_some wanted ≡ false → is_line x ≡ true
-    → Came before r after → is_this x r ≡ true → Leads (compared before wanted) (x ∷ []) (compared after wanted) []
-line_passed before (Some y) r after x none line came this = absurd cc
-line_passed before None None after x none line over this = absurd cc
-line_passed before None (Some p) after x none line next this =
-    let both = both_true p.ended (bytes_eq x p.text.now) this in
-    let same : x ≡ p.text.now = equal_lines x p.text.now both.1 in
-    let is : is_line p.text.now ≡ true = ap is_line (sym same) ∙ line in
-    record {
-      bad = ended_or_bad before p after next ∙ rw (both.0, is) refl;
-      same = λ good more. rw (lines_next before p after next, both.1, next.next) refl;
-    }
-
--- where what is ahead has no bad line
-never : (before : Ahead) (piece : Piece) (after : Ahead) → IsNext before piece after → bad_ahead before ≡ None → (piece.ended && is_line piece.text.now) ≡ true
-never before piece after next good =
-    elim (cases_Bool (piece.ended && is_line piece.text.now)) [
-      | inl a ↦ a
-      | inr a ↦ let e = rw a at (sym (ended_or_bad before piece after next) ∙ good) in absurd cc
-    ]
-
-other_line : (before : Ahead) (p : Piece) (after : Ahead) (x : List ℕ) (more : List (List ℕ)) → IsNext before p after → bad_ahead before ≡ None → (p.ended && bytes_eq x p.text.now) ≡ false
-    → outcome (compared before None) (x ∷ more) ≡ outcome (compared before (Some x)) more
-other_line before p after x more next good this =
-    let ended = (both_true p.ended (is_line p.text.now) (never before p after next good)).0 in
-    let other : bytes_eq x p.text.now ≡ false = rw ended at this in
-    rw (lines_next before p after next, other) refl
-
-pub line_wanted : (before : Ahead) (wanted : Option (List ℕ)) (r : Option Piece) (after : Ahead) (x : List ℕ) → is_some wanted ≡ false
-    → Came before r after → is_this x r ≡ false → Leads (compared before wanted) (x ∷ []) (compared before (Some x)) []
-line_wanted before (Some y) r after x none came this = absurd cc
-line_wanted before None None after x none over this = record { bad = refl; same = λ good more. rw (lines_over before after over) refl }
-line_wanted before None (Some p) after x none next this = record { bad = refl; same = λ good more. other_line before p after x more next good this }
-
 -- ## nothing more is expected
-
-pub fits_there : (before : Ahead) (r : Option Piece) (after : Ahead) → bad_ahead before ≡ None → Came before r after → FitsLine (line_there r)
-fits_there before None after good h = fits_nothing
-fits_there before (Some p) after good h = fits_line p.text.now (both_true p.ended (is_line p.text.now) (never before p after h good)).1
 
 last : (before : Ahead) (wanted : Option (List ℕ)) (r : Option Piece) (after : Ahead) → Came before r after → outcome (compared before wanted) [] ≡ found_there before.number wanted r
 last before None None after over = rw (lines_over before after over) refl

@@ -7,25 +7,12 @@ pub record Tells {K : Type 0} (same : K → K → Bool) : Type 0 where
   pub same_is : (a b : K) → same a b ≡ true → a ≡ b
 
 module _ {K : Type 0} (same : K → K → Bool) (tells : Tells same) where
-  other : (a b c : K) → same a b ≡ false → same c b ≡ true → same a c ≡ false
-  other a b c n y =
-      elim (cases_Bool (same a c)) [
-        | inl e ↦ let p = tells.same_is a c e in let z = rw (← p) at y in absurd cc
-        | inr e ↦ e
-      ]
-
   turned : (a b : K) → same a b ≡ false → same b a ≡ false
   turned a b n =
       elim (cases_Bool (same b a)) [
         | inl e ↦ let p = tells.same_is b a e in let s = tells.self a in let z = rw p at n in absurd cc
         | inr e ↦ e
       ]
-
-  any-no : (k x : K) (xs : List K) → same x k ≡ false → list_any (λ y. same y k) (x ∷ xs) ≡ list_any (λ y. same y k) xs
-  any-no k x xs n = rw n refl
-
-  any-yes : (k x : K) (xs : List K) → same x k ≡ true → list_any (λ y. same y k) (x ∷ xs) ≡ true
-  any-yes k x xs n = rw n refl
 
   keep : (p : K → Bool) (x : K) (xs : List K) → p x ≡ true → filter p (x ∷ xs) ≡ x ∷ filter p xs
   keep p x xs h = rw h refl

@@ -1,9 +1,10 @@
 -- The tables of routes and of links.
-use Rattle.tva_router.proofs.Common.{◌≡◌, ℕ, ◌+◌, ◌-◌, ◌<◌, ◌≤◌, Bool, true, false, ◌&&◌, cond, eqb, List, [], ◌∷◌, length, take, drop, get_or, set, Option, Some, None, IfSome, is_some, nat_eq, refl, sym, ap, ◌∙◌, subst, inl, inr, zero, suc, arith, All, AllByRecursion, find, position, position_from, option_map, get, eqb_tells, nat_tests, drop_more, get_or-set_same, All-more, All-weaker, recursion_from_All, position-Some, position_from-zero, holds, kept, IsPrefix, Address, Route, longest, leads, link_to, Places, ArePlacesFrom, PrefixPlaces, has_prefix, AreRoutePlacesFrom, AreMarked, IsTableOf, RouteTable, rules, common_steps}
+use Rattle.tva_router.proofs.Common.{◌≡◌, ℕ, ◌+◌, ◌-◌, ◌<◌, ◌≤◌, Bool, true, false, ◌&&◌, cond, eqb, List, [], ◌∷◌, length, take, drop, get_or, set, Option, Some, None, IfSome, is_some, nat_eq, refl, sym, ap, ◌∙◌, subst, inl, inr, zero, suc, arith, All, AllByRecursion, find, position, position_from, option_map, get, eqb_tells, drop_more, get_or-set_same, All-more, All-weaker, recursion_from_All, position-Some, position_from-zero, holds, kept, IsPrefix, Address, Route, longest, leads, link_to, Places, ArePlacesFrom, PrefixPlaces, has_prefix, AreRoutePlacesFrom, AreMarked, IsTableOf, RouteTable}
 use Rattle.tva_router.specs.Tables.{same_prefix}
 use Rattle.tva_router.proofs.Links.{is_at, at_within, find_there, find_nowhere}
 use Rattle.tva_router.proofs.Ports.{same_link}
 use Rattle.tva_router.proofs.Ways.{all_at, found_is, none_is, Within, greatest, reached, both, leads_is, link_none, not_true}
+use Rattle.tva_base.proofs.Each.{eqb-sym}
 
 -- ## made from the last to the first
 
@@ -56,12 +57,9 @@ and_false : (b : Bool) → b && false ≡ false
 and_false true = refl
 and_false false = refl
 
-flipped : (a b : ℕ) → eqb a b ≡ eqb b a
-flipped a b = grind (arith, nat_tests)
-
 -- a prefix of that length that the destination begins with is that of its first bits
 has_leads : (bits : ℕ) (dst : Address) (r : Route) → has_prefix bits (kept dst bits).0 r ≡ leads bits dst r
-has_leads bits dst r = grind (arith, eqb_tells, flipped, and_true, and_false)
+has_leads bits dst r = grind (arith, eqb_tells, eqb-sym, and_true, and_false)
 
 -- tests that agree find the same place
 place_same : (p q : Route → Bool) (n : ℕ) (routes : List Route) → ((r : Route) → p r ≡ q r) → position_from p n routes ≡ position_from q n routes

@@ -3,13 +3,11 @@ use Rattle.std.specs.Prelude.{◌≡◌, ◌⊎◌, ◌≤◌, ◌+◌, ℕ, Lis
 use Rattle.std.proofs.Common.{inl, inr}
 use Rattle.tva_shim.specs.declared.packets.Carried as carries
 use Rattle.tva_shim.specs.declared.packets.Carried.TheVariants as carried
-use Rattle.tva_shim.specs.Shims.{ShimData, IsShim}
-use Rattle.tva_shim.specs.Layout.{HaveNoShim, layout}
+use Rattle.tva_shim.specs.{Shims.ShimData, Shims.IsShim, Layout.HaveNoShim, Layout.layout}
 use Rattle.tva_shim.proofs.Readable.{shim_or_none}
-use Rattle.tva_rows.specs.declared.brief.BriefRow.{BriefRow}
+use Rattle.tva_rows.specs.declared.{brief.BriefRow.BriefRow, rows.Row.Row}
 use Rattle.tva_rows.specs.declared.brief.BriefWhat as briefs
 use Rattle.tva_rows.specs.declared.brief.BriefWhat.TheVariants as brief
-use Rattle.tva_rows.specs.declared.rows.Row.{Row}
 use Rattle.tva_rows.specs.declared.rows.RowWhat as whats
 use Rattle.tva_rows.specs.declared.rows.RowWhat.TheVariants as what
 

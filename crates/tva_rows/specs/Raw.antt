@@ -3,8 +3,7 @@ use Rattle.std.specs.Prelude.{◌≡◌, ◌≢◌, ℕ, List, [], length}
 use Rattle.tva_base.specs.declared.packet.Flow.{Flow}
 use Rattle.tva_shim.specs.declared.packets.Carried as carries
 use Rattle.tva_shim.specs.declared.packets.Carried.TheVariants as carried
-use Rattle.tva_shim.specs.Shims.{IsShim}
-use Rattle.tva_shim.specs.Layout.{HaveNoShim, layout}
+use Rattle.tva_shim.specs.{Shims.IsShim, Layout.HaveNoShim, Layout.layout}
 use Rattle.tva_rows.specs.declared.rows.RowWhat as whats
 use Rattle.tva_rows.specs.declared.rows.RowWhat.TheVariants as what
 

@@ -1,8 +1,7 @@
 -- Crate: what every row keeps that was read under a configuration.
 use Rattle.std.specs.Prelude.{◌≡◌, ◌≤◌, ◌<◌, ◌==◌, ◌&&◌, ℕ, Bool, true, false, List, [], ◌∷◌, length, count_by, All}
 use Rattle.tva_shim.specs.Packets.{IsWithinWidths}
-use Rattle.tva_plan.specs.declared.config.Config.{Config}
-use Rattle.tva_plan.specs.Names.{is_host}
+use Rattle.tva_plan.specs.{declared.config.Config.Config, Names.is_host}
 use Rattle.tva_rows.specs.declared.rows.Row.{Row}
 use Rattle.tva_rows.specs.declared.rows.RowWhat as whats
 use Rattle.tva_rows.specs.declared.rows.RowWhat.TheVariants as what

@@ -1,11 +1,9 @@
 // The rows of a trace in little memory.
 ghost use Rattle.std.specs.Prelude.{◌≡◌, ◌<◌, ◌≤◌, [], ◌∷◌, ◌++◌, IfOk, OnErr, OnOk, length, slice_index_or};
 ghost use Rattle.tva_shim.specs.declared.packets.Carried.TheVariants as carried;
-ghost use Rattle.tva_rows.specs.declared.rows.Row.{Row};
-ghost use Rattle.tva_rows.specs.declared.rows.RowWhat.{RowWhat};
-ghost use Rattle.tva_rows.specs.declared.rows.RowWhat.TheVariants as asks;
-ghost use Rattle.tva_rows.specs.Raw.{IsRaw};
+ghost use Rattle.tva_rows.specs.{declared.rows.Row.Row, declared.rows.RowWhat.RowWhat, Raw.IsRaw};
 ghost use Rattle.tva_rows.specs.Brief.{Grows, IsWhatHeld, what_in};
+ghost use Rattle.tva_rows.specs.declared.rows.RowWhat.TheVariants as asks;
 
 use crate::brief::{BriefRow, BriefWhat, brief_beside, brief_of, brief_raw, brief_shim, what_from};
 use crate::rows::Row;
@@ -24,8 +22,7 @@ pub struct PackedRows {
 
 impl Model for PackedRows {
     ghost use Rattle.std.specs.Prelude.{List};
-    ghost use Rattle.tva_rows.specs.declared.rows.Row.{Row};
-    ghost use Rattle.tva_rows.specs.Brief.{AreHeld, rows_in};
+    ghost use Rattle.tva_rows.specs.{declared.rows.Row.Row, Brief.AreHeld, Brief.rows_in};
 
     ghost Value = { List Row };
 

@@ -28,10 +28,6 @@ charges_now plan now h more a =
     (filter-all (λ (c : Charge). boot_at plan c.time == boot_at plan now) more
     (each-weaker (λ (c : Charge). c.time ≡ now) (λ (c : Charge). (boot_at plan c.time == boot_at plan now) ≡ true) (λ c e. eq-eqb (boot_at plan c.time) (boot_at plan now) (ap (boot_at plan) e)) more a))
 
--- while no restart comes, a boot has the charges that it had
-pub charges_same : (plan : RouterPlan) (now later : ℕ) (h : List Charge) → boot_at plan now ≡ boot_at plan later → charges_at plan now h ≡ charges_at plan later h
-charges_same plan now later h e = ap (λ (boot : ℕ). charges_of_boot plan boot h) e
-
 -- a boot has no charges of earlier ones
 pub charges_none : (plan : RouterPlan) (boot : ℕ) (h : List Charge) → AllByRecursion (λ c. boot_at plan c.time < boot) h → charges_of_boot plan boot h ≡ []
 charges_none plan boot h a =

@@ -1,17 +1,13 @@
 -- How a run goes on: over a window, and where nothing is to be done.
-use Rattle.tva_run.proofs.Common.{nat_tests, ◌≡◌, ℕ, zero, suc, ◌+◌, ◌<◌, ◌≤◌, List, [], ◌∷◌, ◌++◌, length, Some, refl, sym, ◌∙◌, ap, ap₂, arith, inl, inr, nat_lt, ◌==◌, slice_get, option_map, AllByRecursion, cases_lt, get_or_past, append_cancel_left, append-nil, filter-append, slice_get_cases, Event, LinkPlan, Config, NodePlan, Row, IsJoin, cut, Site, site_of, input_time, input_source, entry_time, IsNodeLog, due, Logs, log_at, links_out, site_at, reaches, HasLog, IsRunTo, logs_before, event_time, event_node, events_at, AreEvents, least_delay, window_length, IsAtRest}
-use Rattle.tva_run.proofs.Joins.{filter-true, filter-false, in_order-filter, in_order-append, join_unique, cut-cut, each-cut}
+use Rattle.tva_run.proofs.Common.{nat_tests, ◌≡◌, ℕ, zero, suc, ◌+◌, ◌<◌, ◌≤◌, List, [], ◌∷◌, ◌++◌, length, Some, refl, sym, ◌∙◌, ap, ap₂, arith, inl, inr, nat_lt, ◌==◌, slice_get, option_map, AllByRecursion, cases_lt, get_or_past, append_cancel_left, append-nil, filter-append, slice_get_cases, Event, LinkPlan, Config, NodePlan, Row, IsJoin, cut, Site, site_of, entry_time, IsNodeLog, due, Logs, log_at, links_out, site_at, reaches, HasLog, IsRunTo, logs_before, event_time, event_node, events_at, AreEvents, least_delay, window_length, IsAtRest}
+use Rattle.tva_run.proofs.Joins.{filter-true, filter-false, in_order-append, cut-cut, each-cut}
 use Rattle.tva_run.proofs.Putting.{each_from_sources}
 use Rattle.tva_run.proofs.Logs.{IsNodeLog-cut, IsNodeLog-same, IsNodeLog-unique}
 use Rattle.tva_run.proofs.Quiet.{quiet_log}
-use Rattle.tva_run.proofs.Runs.{source_due, reaches_same}
+use Rattle.tva_run.proofs.Runs.{inputs_same, reaches_same}
 use Rattle.tva_run.proofs.Reports.{events_at-before}
 
 -- ## over a window
-
-least_first : (none : ℕ) (link : LinkPlan) (links : List LinkPlan) → least_delay none (link ∷ links) ≤ link.delay
-least_first none link [] = omega arith
-least_first none link (other ∷ links) = omega arith
 
 least_rest : (none : ℕ) (link other : LinkPlan) (links : List LinkPlan) → least_delay none (link ∷ other ∷ links) ≤ least_delay none (other ∷ links)
 least_rest none link other links = omega arith
@@ -53,13 +49,7 @@ module _ (config : Config) (rows : List Row) (from until : ℕ) (logs longer : L
       let there : site_at config node ≡ Some site = ap (option_map (λ (p : NodePlan). site_of node p (links_out node config.links))) here in
       let h = has node site there in
       let r = run.each node site there in
-      let same : due from h.inputs ≡ due from r.inputs =
-      join_unique input_time input_source (due from h.inputs) (due from r.inputs)
-      (in_order-filter input_time input_source (λ i. nat_lt (input_time i) from) h.inputs h.join.in_order)
-      (in_order-filter input_time input_source (λ i. nat_lt (input_time i) from) r.inputs r.join.in_order)
-      (λ s.
-      source_due config rows until from logs node s h.inputs later h.join
-      ∙ sym (source_due config rows from from logs node s r.inputs (omega arith) r.join)) in
+      let same = inputs_same config rows from until from logs logs node h.inputs r.inputs later (omega arith) h.join r.join (λ s. refl) in
       IsNodeLog-unique site from h.inputs r.inputs (cut entry_time from (log_at longer node)) (log_at logs node) same
       (IsNodeLog-cut site h.inputs from until (log_at longer node) h.join.in_order later h.is_log) r.is_log
 
@@ -105,13 +95,7 @@ pub at_rest : (config : Config) (rows : List Row) (from until : ℕ) (logs : Log
     → (q : IsAtRest config rows logs from until site (log_at logs node)) → IsNodeLog site q.inputs from (log_at logs node)
 at_rest config rows from until logs later run node site there q =
     let r = run.each node site there in
-    let same : due from r.inputs ≡ due from q.inputs =
-    join_unique input_time input_source (due from r.inputs) (due from q.inputs)
-    (in_order-filter input_time input_source (λ i. nat_lt (input_time i) from) r.inputs r.join.in_order)
-    (in_order-filter input_time input_source (λ i. nat_lt (input_time i) from) q.inputs q.join.in_order)
-    (λ s.
-    source_due config rows from from logs site.number s r.inputs (omega arith) r.join
-    ∙ sym (source_due config rows until from logs site.number s q.inputs later q.join)) in
+    let same = inputs_same config rows from from until logs logs site.number r.inputs q.inputs (omega arith) later r.join q.join (λ s. refl) in
     IsNodeLog-same site r.inputs q.inputs from (log_at logs node) same r.is_log
 
 pub run_rests : (config : Config) (rows : List Row) (from until : ℕ) (logs : Logs) → from ≤ until → until ≤ config.horizon.0 + 1 → IsRunTo config rows from logs

@@ -1,5 +1,6 @@
 -- All that happens in a run happens in its windows.
 use Rattle.tva_run.proofs.Common.{◌≡◌, ℕ, suc, ◌+◌, ◌<◌, ◌≤◌, List, [], ◌∷◌, ◌++◌, length, map, filter, true, false, Option, Some, None, refl, sym, ◌∙◌, ap, ap₂, arith, inl, inr, ◌⊎◌, nat_lt, nat_le, ◌&&◌, ◌==◌, Contains, option_map_or, AllByRecursion, flat_map, cases_lt, nat_tests, append-nil, filter-append, Event, LinkLimits, Class, PacketData, Config, Row, IsInOrder, cut, Input, Site, Entry, Took, Started, input_time, input_source, entry_time, entry_rank, starts, start_after, due, GoesOn, next_decision, next_on, events, Logs, log_at, site_at, reaches, IsRunTo, event_time, event_node, AreEvents, Window, IsWork, AreWindows, events_in, given}
+use Rattle.tva_base.proofs.Each.{is_in, is_behind, is_ahead}
 use Rattle.std.proofs.lemmas.List.Folds.{flat_map-map}
 use Rattle.tva_port.specs.Log as port
 use Rattle.tva_run.proofs.Joins.{filter-true, filter-false, filter-all, filter-none, each-filter, each-weaker, cut-early, cut-late, times_from}
@@ -117,15 +118,6 @@ is_since from t h = grind (arith, nat_tests)
 
 not_since : (from t : ℕ) → t < from → nat_le from t ≡ false
 not_since from t h = grind (arith, nat_tests)
-
-pub is_in : (a b t : ℕ) → a ≤ t → t < b → (nat_le a t && nat_lt t b) ≡ true
-is_in a b t h k = grind (arith, nat_tests)
-
-pub is_behind : (a b t : ℕ) → b ≤ t → (nat_le a t && nat_lt t b) ≡ false
-is_behind a b t h = grind (arith, nat_tests)
-
-pub is_ahead : (a b t : ℕ) → t < a → (nat_le a t && nat_lt t b) ≡ false
-is_ahead a b t h = grind (arith, nat_tests)
 
 -- what comes from a time on is what comes in the next window, and what comes from its end on
 split : (from a b : ℕ) → from ≤ a → a ≤ b → (told : List Event) → IsInOrder event_time event_node told → AllByRecursion (λ e. from ≤ event_time e → a ≤ event_time e) told

@@ -1,5 +1,6 @@
 -- Lemmas on lists that join several sources.
-use Rattle.tva_run.proofs.Common.{nat_tests, ◌≡◌, ℕ, ◌<◌, ◌≤◌, List, [], ◌∷◌, ◌++◌, filter, Bool, true, false, refl, sym, ◌∙◌, ap, ap₂, arith, inl, inr, ◌⊎◌, nat_lt, ◌==◌, AllByRecursion, lt-ltb, ltb-true, le-ltb, eq-eqb, ne_eqb, cases_eq, MayPrecede, IsInOrder, from_source, cut, map}
+use Rattle.tva_run.proofs.Common.{nat_tests, ◌≡◌, ℕ, ◌<◌, ◌≤◌, List, [], ◌∷◌, ◌++◌, filter, Bool, true, false, refl, sym, ◌∙◌, ap, ap₂, arith, inl, inr, ◌⊎◌, nat_lt, ◌==◌, AllByRecursion, lt-ltb, ltb-true, le-ltb, eq-eqb, ne_eqb, cases_eq, MayPrecede, IsInOrder, from_source, cut}
+pub use Rattle.tva_base.proofs.Each.{each-filter, each-right, each-map}
 
 -- ## any list
 
@@ -13,21 +14,9 @@ pub filter_swap : {X : Type 0} (p q : X → Bool) (xs : List X) → filter p (fi
 filter_swap p q [] = refl
 filter_swap p q (x ∷ xs) = grind (arith, nat_tests, filter-true, filter-false, (filter_swap p q xs))
 
-pub each-filter : {X : Type 0} (P : X → Type 0) (p : X → Bool) (xs : List X) → AllByRecursion P xs → AllByRecursion P (filter p xs)
-each-filter P p [] h = tt
-each-filter P p (x ∷ xs) h = grind (arith, nat_tests, filter-true, filter-false, (each-filter P p xs h.1))
-
 pub each-append : {X : Type 0} (P : X → Type 0) (xs ys : List X) → AllByRecursion P xs → AllByRecursion P ys → AllByRecursion P (xs ++ ys)
 each-append P [] ys a b = b
 each-append P (x ∷ xs) ys a b = (a.0, each-append P xs ys a.1 b)
-
-pub each-right : {X : Type 0} (P : X → Type 0) (xs ys : List X) → AllByRecursion P (xs ++ ys) → AllByRecursion P ys
-each-right P [] ys h = h
-each-right P (x ∷ xs) ys h = each-right P xs ys h.1
-
-pub each-map : {X Y : Type 0} (f : X → Y) (P : Y → Type 0) (xs : List X) → AllByRecursion (λ x. P (f x)) xs → AllByRecursion P (map f xs)
-each-map f P [] h = tt
-each-map f P (x ∷ xs) h = (h.0, each-map f P xs h.1)
 
 pub each-weaker : {X : Type 0} (P Q : X → Type 0) → ((x : X) → P x → Q x) → (xs : List X) → AllByRecursion P xs → AllByRecursion Q xs
 each-weaker P Q w [] h = tt

@@ -1,5 +1,6 @@
 -- What the log of a node is to its links: what is queued there had its place, and what starts is the free link's decision.
-use Rattle.tva_run.proofs.Common.{nat_tests, ◌≡◌, ℕ, suc, ◌+◌, ◌≤◌, ◌<◌, Bool, true, false, cond, List, [], ◌∷◌, map, Option, Some, None, refl, sym, ap, ◌∙◌, subst, arith, ◌==◌, nat_lt, nat_le, option_map, option_and_then, IfSome, AllByRecursion, find, cons_option, lt-ltb, le-ltb, All-from_recursion, same_Some, Address, LinkLimits, Class, Outcome, Queued, Dropped, LinkPlan, RouterPlan, HostPlan, in_force, PacketData, class_by_shim, key_of, Start, decision, RestsAt, MissesNone, Follows, Judged, judge, PortLogs, offered, outcome_of, sent, outgoing_link, way_to, arrival, goes_on, stopped, forwarded, handle, link_to, charges_at, Made, answered, NodePlan, cut, Input, FromTrace, Arrival, Site, IsSite, limits_out, Content, Entry, Started, input_time, entry_time, charges, content_at, queued_at, reply_at, port_entry, port_logs, arrived, routed, goes_out, hosted, content_by, content, sent_out, IsShort, start_of, start_after, starts, LeavesNone}
+use Rattle.tva_run.proofs.Common.{nat_tests, ◌≡◌, ℕ, suc, ◌+◌, ◌≤◌, ◌<◌, Bool, true, false, cond, List, [], ◌∷◌, Option, Some, None, refl, sym, ap, ◌∙◌, subst, arith, ◌==◌, nat_lt, nat_le, option_map, option_and_then, IfSome, AllByRecursion, find, cons_option, lt-ltb, le-ltb, All-from_recursion, same_Some, Address, LinkLimits, Class, LinkPlan, RouterPlan, HostPlan, in_force, PacketData, class_by_shim, Start, decision, RestsAt, MissesNone, Follows, Judged, judge, PortLogs, offered, outcome_of, sent, outgoing_link, way_to, arrival, goes_on, stopped, forwarded, handle, link_to, charges_at, Made, answered, NodePlan, cut, Input, FromTrace, Arrival, Site, IsSite, limits_out, Content, Entry, Started, input_time, entry_time, charges, content_at, queued_at, reply_at, port_entry, port_logs, arrived, routed, goes_out, hosted, content_by, content, sent_out, IsShort, start_of, start_after, starts, LeavesNone}
+use Rattle.tva_base.proofs.Each.{find-map}
 use Rattle.tva_drr.specs.declared.offered.Offered.{Offered}
 use Rattle.tva_port.specs.Log as port
 use Rattle.tva_plan.specs.declared.config.NodePlan.TheVariants as plans
@@ -20,10 +21,6 @@ number_is site link x e = grind (arith, nat_tests, same_Some, found_number)
 
 pub numbered_out : (site : Site) (link : ℕ) (x : ℕ × LinkLimits) → limits_out site link ≡ Some x → limits_out site link ≡ Some (link, x.1)
 numbered_out site link x e = grind (arith, nat_tests, number_is)
-
-pub find-map : {X Y : Type 0} (f : X → Y) (p : Y → Bool) (xs : List X) → find p (map f xs) ≡ option_map f (find (λ x. p (f x)) xs)
-find-map f p [] = refl
-find-map f p (x ∷ xs) = grind (arith, nat_tests, (find-map f p xs))
 
 -- a router's links out are its plan's
 pub router_out : (site : Site) (plan : RouterPlan) (link : ℕ) → IsSite site → site.plan ≡ plans.Router plan → outgoing_link plan link ≡ limits_out site link
@@ -54,11 +51,6 @@ router_way site plan now dst s e = by_link (link_to (in_force plan now).routes d
     by_link (Some link) = own_way site link (outgoing_link (in_force plan now) link) (sym (same_out plan now link ∙ router_out site plan link s e))
 
 -- ## times
-
--- an entry of a port's log has the time of the node's entry
-queued_time : (link time : ℕ) (outcome : Outcome) (class : Class) (p : PacketData) → IfSome (queued_at link time outcome class p) (λ x. port.entry_time x ≡ time)
-queued_time link time (Queued on) class p = elim (link == on) as (λ b. IfSome (cond b (Some (port.Queued time class (key_of class p) p)) None) (λ x. port.entry_time x ≡ time)) [ true ↦ refl | false ↦ tt ]
-queued_time link time (Dropped cause) class p = tt
 
 pub port_time : (link : ℕ) (e : Entry) → IfSome (port_entry link e) (λ x. port.entry_time x ≡ entry_time e)
 port_time link v0 = grind (arith, nat_tests)

@@ -1,5 +1,6 @@
 -- What a node's log is at each of its places, and what holds of it from place to place.
 use Rattle.tva_run.proofs.Common.{nat_tests, ◌≡◌, ◌≤◌, List, [], ◌∷◌, ◌++◌, Some, sym, subst, arith, append_assoc, AllByRecursion, IsInOrder, Input, Site, Content, Entry, Took, Started, entry_time, entry_rank, content, GoesOn, starts}
+pub use Rattle.tva_base.proofs.Each.{each-left as each_front}
 use Rattle.std.proofs.Common.{append-nil}
 use Rattle.tva_run.proofs.Joins.{each-append}
 
@@ -13,10 +14,6 @@ at_place {X = X} P xs before x rest e a = from before (subst (AllByRecursion P) 
     from : (ys : List X) → AllByRecursion P (ys ++ x ∷ rest) → P x
     from [] k = k.0
     from (y ∷ ys) k = from ys k.1
-
-pub each_front : {X : Type 0} (P : X → Type 0) (xs ys : List X) → AllByRecursion P (xs ++ ys) → AllByRecursion P xs
-each_front P [] ys h = tt
-each_front P (x ∷ xs) ys h = (h.0, each_front P xs ys h.1)
 
 -- what holds of a list's front, and at each place with one element more, holds of the list
 pub by_place : {X : Type 0} (P : List X → Type 0) (front xs : List X)

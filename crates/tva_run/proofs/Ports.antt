@@ -67,7 +67,7 @@ module _ (l : LinkLimits) (log : List Entry) (now : ℕ) (limits : AreLinkLimits
 -- ## starts
 
 pub not_start : (d : Decision) → is_start d ≡ false → start_of d ≡ None
-not_start v0 e = grind arith
+not_start d e = grind arith
 
 -- a busy link starts nothing
 pub busy_starts_none : (l : LinkLimits) (log : List Entry) (now : ℕ) → now < free_after l log → start_after l log now ≡ None

@@ -1,5 +1,6 @@
 -- What is put one by one into a list in order joins what stood there and what was put in.
 use Rattle.tva_run.proofs.Common.{◌≡◌, ℕ, ◌<◌, ◌≤◌, List, [], ◌∷◌, ◌++◌, true, false, refl, sym, subst, ◌∙◌, ap, arith, inl, inr, ◌⊎◌, nat_lt, ◌==◌, ◌||◌, ◌&&◌, AllByRecursion, le-ltb, eq-eqb, ne_eqb, cases_Bool, cases_eq, cond-true, cond-false, nat_tests, append-nil, MayPrecede, IsInOrder, from_source, cut, precedes, put_in, put_all, NeverFalls}
+pub use Rattle.tva_base.proofs.Each.{each-both}
 use Rattle.std.proofs.lemmas.List.{append_assoc}
 use Rattle.tva_run.proofs.Joins.{filter-true, filter-false, filter-none, each-weaker, may_precede_trans}
 
@@ -12,10 +13,6 @@ before_no a b c d h = grind (arith, nat_tests)
 -- strictly before what is not after
 pub strictly_trans : (a b c d e f : ℕ) → (a < c) ⊎ ((a ≡ c) × (b < d)) → (c < e) ⊎ ((c ≡ e) × (d ≤ f)) → (a < e) ⊎ ((a ≡ e) × (b < f))
 strictly_trans a b c d e f h k = grind arith
-
-pub each-both : {X : Type 0} (P Q R : X → Type 0) → ((x : X) → P x → Q x → R x) → (xs : List X) → AllByRecursion P xs → AllByRecursion Q xs → AllByRecursion R xs
-each-both P Q R w [] a b = tt
-each-both P Q R w (x ∷ xs) a b = (w x a.0 b.0, each-both P Q R w xs a.1 b.1)
 
 each_left : {X : Type 0} (P : X → Type 0) (x : X) (xs ys : List X) → AllByRecursion P (xs ++ x ∷ ys) → P x
 each_left P x [] ys h = h.0

@@ -15,10 +15,6 @@ due_cond until false xs ys h = refl
 due_cond until true xs ys h = h
 
 module _ (number : ℕ) (link : LinkPlan) where
-  -- a packet arrives no sooner than the link's delay after it starts
-  pub arrives_later : (e : Entry) (i : Input) → arrival_of number link e ≡ Some i → entry_time e + link.delay ≤ input_time i
-  arrives_later v0 i h = grind (arith, nat_tests)
-
   due_late : (t until : ℕ) (e : Entry) (o : Option Input) (xs : List Input) → until ≤ t + link.delay → arrival_of number link e ≡ o → t ≤ entry_time e → due until (cons_option o xs) ≡ due until xs
   due_late t until e v0 xs d h l = grind (arith, nat_tests)
 
@@ -67,6 +63,15 @@ pub source_due : (config : Config) (rows : List Row) (until t : ℕ) (logs : Log
     → IsJoin input_time input_source (λ s. due until (reaches config rows logs node s)) inputs → from_source input_source source (due t inputs) ≡ due t (reaches config rows logs node source)
 source_due config rows until t logs node source inputs l j = grind (arith, nat_tests, filter_swap, cut-cut, reaches)
 
+-- inputs of what reaches a node in two ways that agree up to a time agree before it
+pub inputs_same : (config : Config) (rows : List Row) (t u v : ℕ) (a b : Logs) (node : ℕ) (is js : List Input) → t ≤ u → t ≤ v
+    → IsJoin input_time input_source (λ s. due u (reaches config rows a node s)) is → IsJoin input_time input_source (λ s. due v (reaches config rows b node s)) js
+    → ((s : ℕ) → due t (reaches config rows a node s) ≡ due t (reaches config rows b node s)) → due t is ≡ due t js
+inputs_same config rows t u v a b node is js l m j k e =
+    join_unique input_time input_source (due t is) (due t js)
+    (in_order-filter input_time input_source (λ i. nat_lt (input_time i) t) is j.in_order) (in_order-filter input_time input_source (λ i. nat_lt (input_time i) t) js k.in_order)
+    (λ s. source_due config rows u t a node s is l j ∙ (e s ∙ sym (source_due config rows v t b node s js m k)))
+
 module _ (config : Config) (rows : List Row) (until : ℕ) (a b : Logs) (delayed : (number : ℕ) (link : LinkPlan) → slice_get config.links number ≡ Some link → 1 ≤ link.delay) (ra : IsRunTo config rows until a) (rb : IsRunTo config rows until b) where
   at_site : (t : ℕ) → suc t ≤ until → ((m : ℕ) → cut entry_time t (log_at a m) ≡ cut entry_time t (log_at b m)) → (node : ℕ) (plan : NodePlan) → slice_get config.nodes node ≡ Some plan → cut entry_time (suc t) (log_at a node) ≡ cut entry_time (suc t) (log_at b node)
   at_site t l h node plan here =
@@ -74,13 +79,8 @@ module _ (config : Config) (rows : List Row) (until : ℕ) (a b : Logs) (delayed
       let there : site_at config node ≡ Some site = ap (option_map (λ (p : NodePlan). site_of node p (links_out node config.links))) here in
       let la = ra.each node site there in
       let lb = rb.each node site there in
-      let same : due (suc t) la.inputs ≡ due (suc t) lb.inputs =
-      join_unique input_time input_source (due (suc t) la.inputs) (due (suc t) lb.inputs)
-      (in_order-filter input_time input_source (λ i. nat_lt (input_time i) (suc t)) la.inputs la.join.in_order)
-      (in_order-filter input_time input_source (λ i. nat_lt (input_time i) (suc t)) lb.inputs lb.join.in_order)
-      (λ s.
-      source_due config rows until (suc t) a node s la.inputs l la.join
-      ∙ (reaches_same config rows t (suc t) node (λ k link at. let d = delayed k link at in omega arith) a b h s ∙ sym (source_due config rows until (suc t) b node s lb.inputs l lb.join))) in
+      let same = inputs_same config rows (suc t) until until a b node la.inputs lb.inputs l l la.join lb.join
+      (λ s. reaches_same config rows t (suc t) node (λ k link at. let d = delayed k link at in omega arith) a b h s) in
       IsNodeLog-unique site (suc t) la.inputs lb.inputs (cut entry_time (suc t) (log_at a node)) (cut entry_time (suc t) (log_at b node)) same
       (IsNodeLog-cut site la.inputs (suc t) until (log_at a node) la.join.in_order l la.is_log)
       (IsNodeLog-cut site lb.inputs (suc t) until (log_at b node) lb.join.in_order l lb.is_log)

@@ -1,7 +1,7 @@
 -- What holds of each packet that is made or handed on holds of what starts. And what holds of what a node makes of inputs, where
 -- it held of these, holds of each entry of a run: by induction over time, since what arrives before the next time was sent
 -- before it.
-use Rattle.tva_run.proofs.Common.{nat_tests, ◌≡◌, ℕ, zero, suc, ◌+◌, ◌*◌, ◌≤◌, Bool, true, false, cond, List, [], ◌∷◌, ◌++◌, map, Option, Some, None, refl, sym, ap, subst, ◌∙◌, arith, inl, inr, append_assoc, nat_lt, ◌==◌, slice_get, option_map_or, option_and_then, AllByRecursion, cons_option, cases_lt, lt-ltb, LinkLimits, Class, Outcome, LinkPlan, PacketData, packet_length, Made, Config, IsConfig, Row, IsInOrder, cut, Input, FromTrace, Arrival, Site, limits_out, Content, Arrived, Sent, Ticked, Received, Entry, Took, Started, input_time, input_source, entry_time, entry_rank, queued_at, content_at, port_entry, port_logs, due, starts, start_after, at_time, Logs, log_at, site_at, arrivals, arrivals_at, reaches, IsRunTo}
+use Rattle.tva_run.proofs.Common.{nat_tests, ◌≡◌, ℕ, zero, suc, ◌+◌, ◌*◌, ◌≤◌, Bool, true, false, cond, List, [], ◌∷◌, ◌++◌, map, Option, Some, None, refl, sym, ap, subst, ◌∙◌, arith, inl, inr, append_assoc, nat_lt, ◌==◌, slice_get, option_map_or, option_and_then, AllByRecursion, cons_option, cases_lt, lt-ltb, LinkLimits, Class, LinkPlan, PacketData, packet_length, Made, Config, IsConfig, Row, IsInOrder, cut, Input, FromTrace, Arrival, Site, limits_out, Content, Arrived, Sent, Ticked, Received, Entry, Took, Started, input_time, input_source, entry_time, entry_rank, port_entry, port_logs, due, starts, start_after, at_time, Logs, log_at, site_at, arrivals, arrivals_at, reaches, IsRunTo}
 use Rattle.tva_port.specs.Log as port
 use Rattle.tva_run.proofs.Joins.{each-filter, each_later, filter-true, cut-late, cut-zero}
 use Rattle.tva_run.proofs.Putting.{each_from_sources}
@@ -30,13 +30,6 @@ module _ (P : PacketData → Type 0) where
 
   abbrev IfBrings : Option port.Entry → Type 0
   IfBrings o = AllByRecursion (Brings P) (cons_option o [])
-
-  queued_good : (link time : ℕ) (outcome : Outcome) (class : Class) (packet : PacketData) → P packet
-      → IfBrings (queued_at link time outcome class packet)
-  queued_good link time v0 class packet k = grind arith
-
-  content_good : (link time : ℕ) (c : Content) → Leaves c → IfBrings (content_at link time c)
-  content_good link time v0 k = grind (arith, nat_tests)
 
   entry_good : (link : ℕ) (e : Entry) → LeavesAt e → IfBrings (port_entry link e)
   entry_good link v0 k = grind (arith, nat_tests)

@@ -1,11 +1,9 @@
 -- Product: what a sender keeps, and for which history it stands.
-use Rattle.std.specs.Prelude.{◌≡◌, ℕ, Bool, nat_eq, ◌==◌, if◌then◌else◌, not, List, [], ◌∷◌}
-use Rattle.std.specs.Prelude.{Option, Some, None, is_some}
+use Rattle.std.specs.Prelude.{◌≡◌, ℕ, Bool, nat_eq, ◌==◌, if◌then◌else◌, not, List, [], ◌∷◌, Option, Some, None, is_some}
 use Rattle.std.specs.Map.{lookup}
 use Rattle.tva_base.specs.declared.addresses.Address.{Address}
-use Rattle.tva_sender.specs.declared.peer.Peer.{Peer}
+use Rattle.tva_sender.specs.{declared.peer.Peer.Peer, Played.IsPlayed, Played.NoneLater}
 use Rattle.tva_sender.specs.Contacts.{Contact, last_ask, held_grant, asked_at, awaits, grant_held}
-use Rattle.tva_sender.specs.Played.{IsPlayed, NoneLater}
 
 -- its rules, the number of peers that it has room for, the last time, and its peers
 pub record Book : Type 0 where

@@ -1,17 +1,11 @@
 -- Product: what happened with one peer: the asks, and the grants that were taken.
-use Rattle.std.specs.Prelude.{ℕ, Bool, true, false, not, nat_lt, ◌==◌, ◌&&◌, ◌||◌, if◌then◌else◌, List, [], ◌∷◌, ◌++◌}
-use Rattle.std.specs.Prelude.{sum_by, count_by}
-use Rattle.std.specs.Prelude.{Option, Some, None, unwrap_or}
+use Rattle.std.specs.Prelude.{ℕ, Bool, true, false, not, nat_lt, ◌==◌, ◌&&◌, ◌||◌, if◌then◌else◌, List, [], ◌∷◌, ◌++◌, sum_by, count_by, Option, Some, None, unwrap_or}
 use Rattle.std.specs.List.{list_any, flat_map}
 use Rattle.std.specs.Option.{option_or, option_map, option_map_or, option_and_then}
-use Rattle.tva_base.specs.declared.packet.Rights.{Rights}
-use Rattle.tva_base.specs.declared.packet.Time.{Time}
-use Rattle.tva_base.specs.Credit.{credit_of}
-use Rattle.tva_base.specs.Lives.{latest_end}
+use Rattle.tva_base.specs.{declared.packet.Rights.Rights, declared.packet.Time.Time, Credit.credit_of, Lives.latest_end}
 use Rattle.tva_base.specs.Versions.{carries}
-use Rattle.tva_sender.specs.declared.shape.Shape.{Shape}
+use Rattle.tva_sender.specs.declared.{shape.Shape.Shape, grant.Grant.Grant}
 use Rattle.tva_sender.specs.declared.shape.Shape.TheVariants as shape
-use Rattle.tva_sender.specs.declared.grant.Grant.{Grant}
 
 -- a packet was prepared for the peer at a time, in a shape and of a length; a grant of the peer
 -- was taken, with its rights and capabilities; or a notice came from the peer

@@ -1,8 +1,7 @@
 -- Crate: which contacts a sender can have with one peer.
 use Rattle.std.specs.Prelude.{◌≡◌, ℕ, ◌≤◌, true, List, [], ◌∷◌, ◌++◌, All}
-use Rattle.tva_sender.specs.declared.shape.Shape.{Shape}
+use Rattle.tva_sender.specs.{declared.shape.Shape.Shape, Shapes.shape_of, Shapes.length_of}
 use Rattle.tva_sender.specs.Contacts.{Contact, Prepared, Taken, Notice, awaits, is_within}
-use Rattle.tva_sender.specs.Shapes.{shape_of, length_of}
 
 -- no packet was prepared later than that
 abbrev pub IsUpTo : ℕ → Contact → Type 0

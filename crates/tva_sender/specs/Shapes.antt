@@ -1,12 +1,8 @@
 -- Product: the shape of the next packet.
-use Rattle.std.specs.Prelude.{ℕ, Bool, true, ◌+◌, ◌-◌, ◌*◌, nat_lt, nat_le, ◌&&◌, ◌||◌, if◌then◌else◌}
-use Rattle.std.specs.Prelude.{List, length, Option, Some, None, unwrap_or}
-use Rattle.tva_sender.specs.declared.shape.Held.{Held}
-use Rattle.tva_sender.specs.declared.shape.Shape.{Shape}
+use Rattle.std.specs.Prelude.{ℕ, Bool, true, ◌+◌, ◌-◌, ◌*◌, nat_lt, nat_le, ◌&&◌, ◌||◌, if◌then◌else◌, List, length, Option, Some, None, unwrap_or}
+use Rattle.tva_sender.specs.declared.{shape.Held.Held, shape.Shape.Shape, grant.Grant.Grant}
 use Rattle.tva_sender.specs.declared.shape.Shape.TheVariants as shape
-use Rattle.tva_sender.specs.declared.grant.Grant.{Grant}
-use Rattle.tva_base.specs.declared.packet.Time.{Time}
-use Rattle.tva_base.specs.Versions.{rights_size}
+use Rattle.tva_base.specs.{declared.packet.Time.Time, Versions.rights_size}
 use Rattle.tva_sender.specs.Contacts.{Contact, asked_at, grant_held}
 
 -- the lengths of packets with a body of so many bytes; that of a list is by the version of its shim

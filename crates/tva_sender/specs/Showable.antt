@@ -1,11 +1,9 @@
 -- Crate: what a shim of a version can carry.
 use Rattle.std.specs.Prelude.{ℕ, ◌^◌, ◌<◌, List, [], ◌∷◌}
-use Rattle.tva_base.specs.declared.addresses.Address.{Address}
-use Rattle.tva_base.specs.Versions.{AreRights}
-use Rattle.tva_sender.specs.declared.shape.Held.{Held}
-use Rattle.tva_sender.specs.declared.shape.Shape.{Shape}
-use Rattle.tva_sender.specs.declared.shape.Shape.TheVariants as shape
+use Rattle.tva_base.specs.{declared.addresses.Address.Address, Versions.AreRights}
+use Rattle.tva_sender.specs.declared.shape.{Held.Held, Shape.Shape}
 use Rattle.tva_sender.specs.Contacts.{Contact, Prepared, Taken, Notice}
+use Rattle.tva_sender.specs.declared.shape.Shape.TheVariants as shape
 
 -- a nonce of 48 bits
 abbrev pub IsNonce : ℕ → Type 0

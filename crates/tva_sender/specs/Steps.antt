@@ -1,16 +1,10 @@
 -- Kit: what one more contact makes of a peer, for the code within the crate.
-use Rattle.std.specs.Prelude.{ℕ, true, false, not, ◌+◌, ◌*◌, ◌^◌, ◌<◌, ◌≤◌, max, ◌==◌, ◌&&◌, if◌then◌else◌}
-use Rattle.std.specs.Prelude.{List, Option, Some, None, unwrap_or}
+use Rattle.std.specs.Prelude.{ℕ, true, false, not, ◌+◌, ◌*◌, ◌^◌, ◌<◌, ◌≤◌, max, ◌==◌, ◌&&◌, if◌then◌else◌, List, Option, Some, None, unwrap_or}
 use Rattle.std.specs.Option.{ForSome}
-use Rattle.tva_base.specs.declared.packet.Rights.{Rights}
-use Rattle.tva_base.specs.declared.packet.Time.{Time}
-use Rattle.tva_base.specs.Credit.{credit_of}
-use Rattle.tva_sender.specs.declared.shape.Shape.{Shape}
+use Rattle.tva_base.specs.{declared.packet.Rights.Rights, declared.packet.Time.Time, Credit.credit_of}
+use Rattle.tva_sender.specs.declared.{shape.Shape.Shape, grant.Grant.Grant, peer.Peer.Peer}
+use Rattle.tva_sender.specs.{Contacts.time, Contacts.asks, Shapes.list_length, Shapes.nonce_length}
 use Rattle.tva_sender.specs.declared.shape.Shape.TheVariants as shape
-use Rattle.tva_sender.specs.declared.grant.Grant.{Grant}
-use Rattle.tva_sender.specs.declared.peer.Peer.{Peer}
-use Rattle.tva_sender.specs.Contacts.{time, asks}
-use Rattle.tva_sender.specs.Shapes.{list_length, nonce_length}
 
 -- a grant as it is taken
 abbrev pub taken_grant : Rights → List ℕ → Time → Grant

@@ -1,9 +1,6 @@
 -- Kit: a tree of addresses by their bits, for the invariant of the places and the functions on it.
-use Rattle.std.specs.Prelude.{◌≡◌, ℕ, zero, suc, ◌/◌, ◌%◌, ◌<◌, ◌==◌, Bool, if◌then◌else◌, List, length, map}
-use Rattle.std.specs.Prelude.{slice_index_or, slice_set, Option, Some, None, option_and_then}
-use Rattle.tva_sender.specs.declared.places.Node.{Node}
-use Rattle.tva_sender.specs.declared.places.Hint.{Hint}
-use Rattle.tva_sender.specs.declared.places.End.{End}
+use Rattle.std.specs.Prelude.{◌≡◌, ℕ, zero, suc, ◌/◌, ◌%◌, ◌<◌, ◌==◌, Bool, if◌then◌else◌, List, length, map, slice_index_or, slice_set, Option, Some, None, option_and_then}
+use Rattle.tva_sender.specs.declared.places.{Node.Node, Hint.Hint, End.End}
 use Rattle.tva_sender.specs.declared.places.End.TheVariants.{Found, Missing}
 use Rattle.tva_sender.specs.Places.{IsFirstAt}
 

@@ -43,8 +43,7 @@ pub(crate) struct Places {
 
 impl Model for Places {
     ghost use Rattle.std.specs.Prelude.{◌-◌, length, vec_capacity, All};
-    ghost use Rattle.tva_sender.specs.Places.{Known, known};
-    ghost use Rattle.tva_sender.specs.Tree.{IsTree, IsRecent, addresses_of};
+    ghost use Rattle.tva_sender.specs.{Places.Known, Places.known, Tree.IsTree, Tree.IsRecent, Tree.addresses_of};
 
     ghost Value = { Known };
 

@@ -1,10 +1,8 @@
 // A sender: what it keeps of its peers.
 ghost use Rattle.std.specs.Prelude.{◌≡◌, ◌⊎◌, ◌+◌, ◌-◌, ◌*◌, ◌^◌, ◌≤◌, ◌<◌, ◌==◌, ◌||◌, max, false, List, [], ◌∷◌, ◌++◌, if◌then◌else◌, OnOk, OnErr};
-ghost use Rattle.tva_base.specs.declared.addresses.Address.{Address};
-ghost use Rattle.tva_base.specs.Versions.{IsVersion};
+ghost use Rattle.tva_base.specs.{declared.addresses.Address.Address, Versions.IsVersion};
 ghost use Rattle.tva_sender.specs.Contacts.{Contact, Prepared, Taken, Notice, takes};
-ghost use Rattle.tva_sender.specs.Shapes.{shape_of, length_of};
-ghost use Rattle.tva_sender.specs.Showable.{AreShowable, IsShowable};
+ghost use Rattle.tva_sender.specs.{Shapes.shape_of, Shapes.length_of, Showable.AreShowable, Showable.IsShowable};
 ghost use Rattle.tva_sender.specs.Book.{Book, empty_book, StandsFor, of_peer, knows};
 
 use crate::peer::{Peer, Rules};
@@ -30,9 +28,7 @@ pub struct Sender {
 
 impl Model for Sender {
     ghost use Rattle.std.specs.Prelude.{◌-◌, length, vec_capacity};
-    ghost use Rattle.tva_sender.specs.Book.{Book};
-    ghost use Rattle.tva_sender.specs.Near.{AreNear};
-    ghost use Rattle.tva_sender.specs.Places.{ArePlaced};
+    ghost use Rattle.tva_sender.specs.{Book.Book, Near.AreNear, Places.ArePlaced};
 
     ghost Value = { Book };
 

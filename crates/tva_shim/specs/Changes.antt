@@ -1,10 +1,8 @@
 -- Product: what a request's tags say, and the changes that a router makes to a shim.
 use Rattle.std.specs.Prelude.{ℕ, ◌+◌, ◌<◌, true, List, [], ◌∷◌, ◌++◌, length, map, filter, nat_lt, slice_set}
-use Rattle.tva_shim.specs.declared.entries.Entry.{Entry}
-use Rattle.tva_shim.specs.declared.kinds.Shown.{Shown}
-use Rattle.tva_shim.specs.declared.kinds.Kind.{Kind}
-use Rattle.tva_shim.specs.declared.kinds.Kind.TheVariants as kinds
+use Rattle.tva_shim.specs.declared.{entries.Entry.Entry, kinds.Shown.Shown, kinds.Kind.Kind}
 use Rattle.tva_shim.specs.Shims.{ShimData, entries_of}
+use Rattle.tva_shim.specs.declared.kinds.Kind.TheVariants as kinds
 
 abbrev pub IsRequest : Kind → Type 0
 IsRequest (kinds.Request entries) = Unit {0}

@@ -2,15 +2,11 @@
 -- the bytes of rights alone.
 use Rattle.std.specs.Prelude.{◌≢◌, ℕ, ◌+◌, ◌*◌, Bool, List, [], ◌∷◌, ◌++◌, length, flat_map, if◌then◌else◌}
 use Rattle.byteorder.specs.Endian.{big_bytes}
-use Rattle.tva_base.specs.declared.packet.Rights.{Rights}
-use Rattle.tva_base.specs.Versions.{rights_number, rights_size}
-use Rattle.tva_shim.specs.declared.entries.Entry.{Entry}
-use Rattle.tva_shim.specs.declared.kinds.Shown.{Shown}
-use Rattle.tva_shim.specs.declared.kinds.Kind.{Kind}
+use Rattle.tva_base.specs.{declared.packet.Rights.Rights, Versions.rights_number, Versions.rights_size}
+use Rattle.tva_shim.specs.declared.{entries.Entry.Entry, kinds.Shown.Shown, kinds.Kind.Kind}
+use Rattle.tva_shim.specs.{declared.kinds.ReturnInfo.ReturnInfo, Shims.ShimData, Shims.IsShim}
 use Rattle.tva_shim.specs.declared.kinds.Kind.TheVariants as kinds
-use Rattle.tva_shim.specs.declared.kinds.ReturnInfo.{ReturnInfo}
 use Rattle.tva_shim.specs.declared.kinds.ReturnInfo.TheVariants as backs
-use Rattle.tva_shim.specs.Shims.{ShimData, IsShim}
 
 -- a number in two bytes, in six and in eight
 unfoldable pub two_bytes : ℕ → List ℕ

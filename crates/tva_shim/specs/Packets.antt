@@ -1,17 +1,13 @@
 -- Product: what a packet is, and which packets there are.
 use Rattle.std.specs.Prelude.{◌≡◌, ℕ, ◌+◌, ◌^◌, ◌<◌, ◌≤◌, length, if◌then◌else◌}
-use Rattle.tva_base.specs.declared.packet.PacketId.{PacketId}
-use Rattle.tva_base.specs.declared.packet.Flow.{Flow}
+use Rattle.tva_base.specs.declared.packet.{PacketId.PacketId, Flow.Flow, Class.Class}
 use Rattle.tva_base.specs.declared.packet.Upper as uppers
 use Rattle.tva_base.specs.declared.packet.Upper.TheVariants as upper
-use Rattle.tva_base.specs.declared.packet.Class.{Class}
 use Rattle.tva_base.specs.declared.packet.Class.TheVariants as classes
-use Rattle.tva_shim.specs.declared.kinds.Kind.{Kind}
-use Rattle.tva_shim.specs.declared.kinds.Kind.TheVariants as kinds
-use Rattle.tva_shim.specs.declared.packets.Carried.{Carried}
-use Rattle.tva_shim.specs.declared.packets.Carried.TheVariants as carried
-use Rattle.tva_shim.specs.Shims.{IsShim}
+use Rattle.tva_shim.specs.{declared.kinds.Kind.Kind, declared.packets.Carried.Carried, Shims.IsShim}
 use Rattle.tva_shim.specs.Layout.{layout, shim_size}
+use Rattle.tva_shim.specs.declared.kinds.Kind.TheVariants as kinds
+use Rattle.tva_shim.specs.declared.packets.Carried.TheVariants as carried
 
 -- a packet as contracts see it
 pub record PacketData : Type 0 where

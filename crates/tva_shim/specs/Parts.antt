@@ -1,14 +1,9 @@
 -- Kit: the parts of a layout, one after the other, and what it is to read one, for the proof of what decodes.
-use Rattle.std.specs.Prelude.{◌≡◌, ℕ, ◌<◌, ◌≤◌, List, [], ◌∷◌, ◌++◌, length, All, flat_map, if◌then◌else◌, Bool, ◌+◌}
-use Rattle.std.specs.Prelude.{◌*◌, Option, Some, None, IfSome}
+use Rattle.std.specs.Prelude.{◌≡◌, ℕ, ◌<◌, ◌≤◌, List, [], ◌∷◌, ◌++◌, length, All, flat_map, if◌then◌else◌, Bool, ◌+◌, ◌*◌, Option, Some, None, IfSome}
 use Rattle.std.specs.Borrow.{Bor}
-use Rattle.tva_base.specs.declared.packet.Rights.{Rights}
-use Rattle.tva_base.specs.Versions.{AreRights, IsVersion}
-use Rattle.tva_shim.specs.declared.decoding.ShimType.{ShimType}
-use Rattle.tva_shim.specs.declared.kinds.Shown.{Shown}
-use Rattle.tva_shim.specs.declared.kinds.Kind.{Kind}
-use Rattle.tva_shim.specs.declared.kinds.ReturnInfo.{ReturnInfo}
-use Rattle.tva_shim.specs.Widths.{AreEntries, AreCaps}
+use Rattle.tva_base.specs.{declared.packet.Rights.Rights, Versions.AreRights, Versions.IsVersion}
+use Rattle.tva_shim.specs.declared.{decoding.ShimType.ShimType, kinds.Shown.Shown, kinds.Kind.Kind}
+use Rattle.tva_shim.specs.{declared.kinds.ReturnInfo.ReturnInfo, Widths.AreEntries, Widths.AreCaps}
 use Rattle.tva_shim.specs.Shims.{IsKind, IsReturn, IsShown, entries_of, caps_of, granted_caps}
 use Rattle.tva_shim.specs.Layout.{kind_code, return_bit, demoted_bit, rights_bytes, eight_bytes}
 

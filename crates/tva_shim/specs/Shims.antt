@@ -1,13 +1,10 @@
 -- Product: what a shim is, and which shims there are.
 use Rattle.std.specs.Prelude.{ℕ, ◌^◌, ◌<◌, ◌≤◌, Bool, List, [], length}
 use Rattle.tva_base.specs.Versions.{AreRights, IsVersion}
-use Rattle.tva_shim.specs.declared.entries.Entry.{Entry}
-use Rattle.tva_shim.specs.declared.kinds.Shown.{Shown}
-use Rattle.tva_shim.specs.declared.kinds.Kind.{Kind}
+use Rattle.tva_shim.specs.declared.{entries.Entry.Entry, kinds.Shown.Shown, kinds.Kind.Kind}
+use Rattle.tva_shim.specs.{declared.kinds.ReturnInfo.ReturnInfo, Widths.AreEntries, Widths.AreCaps}
 use Rattle.tva_shim.specs.declared.kinds.Kind.TheVariants as kinds
-use Rattle.tva_shim.specs.declared.kinds.ReturnInfo.{ReturnInfo}
 use Rattle.tva_shim.specs.declared.kinds.ReturnInfo.TheVariants as backs
-use Rattle.tva_shim.specs.Widths.{AreEntries, AreCaps}
 
 -- a shim as contracts see it
 pub record ShimData : Type 0 where

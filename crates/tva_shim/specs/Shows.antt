@@ -2,16 +2,12 @@
 use Rattle.std.specs.Prelude.{ℕ, List, []}
 use Rattle.tva_base.specs.declared.packet.Class.{Class}
 use Rattle.tva_base.specs.declared.packet.Class.TheVariants as classes
-use Rattle.tva_shim.specs.declared.entries.Entry.{Entry}
-use Rattle.tva_shim.specs.declared.kinds.Kind.{Kind}
-use Rattle.tva_shim.specs.declared.kinds.Kind.TheVariants as kinds
-use Rattle.tva_shim.specs.declared.kinds.ReturnInfo.{ReturnInfo}
-use Rattle.tva_shim.specs.declared.kinds.ReturnInfo.TheVariants as backs
-use Rattle.tva_shim.specs.declared.packets.Carried.{Carried}
-use Rattle.tva_shim.specs.declared.packets.Carried.TheVariants as carried
-use Rattle.tva_shim.specs.Shims.{entries_of}
-use Rattle.tva_shim.specs.Changes.{last_tag, tag_before}
+use Rattle.tva_shim.specs.declared.{entries.Entry.Entry, kinds.Kind.Kind, kinds.ReturnInfo.ReturnInfo}
+use Rattle.tva_shim.specs.{declared.packets.Carried.Carried, Shims.entries_of, Changes.last_tag, Changes.tag_before}
 use Rattle.tva_shim.specs.Packets.{PacketData}
+use Rattle.tva_shim.specs.declared.kinds.Kind.TheVariants as kinds
+use Rattle.tva_shim.specs.declared.kinds.ReturnInfo.TheVariants as backs
+use Rattle.tva_shim.specs.declared.packets.Carried.TheVariants as carried
 
 -- the entries of a request that a packet carries
 abbrev pub entries_in : Carried → List Entry

@@ -1,8 +1,7 @@
 // Shims that are read from bytes, part by part.
 ghost use Rattle.std.specs.Prelude.{◌≡◌, ◌≢◌, ◌≤◌, ◌<◌, ◌^◌, Some, IfSome, IfNone, flat_map};
 ghost use Rattle.tva_base.specs.Versions.{AreRights};
-ghost use Rattle.tva_shim.specs.Widths.{IsEntry, IsCap};
-ghost use Rattle.tva_shim.specs.Shims.{ShimData, IsShim};
+ghost use Rattle.tva_shim.specs.{Widths.IsEntry, Widths.IsCap, Shims.ShimData, Shims.IsShim};
 ghost use Rattle.tva_shim.specs.Layout.{eight_bytes, rights_bytes, entry_bytes, shown_bytes, kind_bytes, return_bytes, layout};
 ghost use Rattle.tva_shim.specs.Parts.{Reads, seen, AreSoMany, IsType, type_bytes, IsWholeShown, IsGrant, grant_bytes, IsKindPart, IsReturnPart, returns_bit};
 

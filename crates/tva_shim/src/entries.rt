@@ -27,9 +27,7 @@ pub struct Entries {
 
 impl Model for Entries {
     ghost use Rattle.std.specs.Prelude.{◌≡◌, List, length};
-    ghost use Rattle.tva_shim.specs.declared.entries.Entry.{Entry};
-    ghost use Rattle.tva_shim.specs.Paired.{paired};
-    ghost use Rattle.tva_shim.specs.Widths.{AreEntries};
+    ghost use Rattle.tva_shim.specs.{declared.entries.Entry.Entry, Paired.paired, Widths.AreEntries};
 
     ghost Value = { List Entry };
 

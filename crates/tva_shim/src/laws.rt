@@ -1,7 +1,6 @@
 // What holds of all bytes.
 ghost use Rattle.std.specs.Prelude.{◌≡◌, ◌⊎◌, ℕ, List};
-ghost use Rattle.tva_shim.specs.Shims.{ShimData, IsShim};
-ghost use Rattle.tva_shim.specs.Layout.{HaveNoShim, layout};
+ghost use Rattle.tva_shim.specs.{Shims.ShimData, Shims.IsShim, Layout.HaveNoShim, Layout.layout};
 
 /// Two shims of one layout are the same, and bytes are the layout of a shim or of none.
 pub fn layouts_are_distinct()

@@ -1,8 +1,7 @@
 // The sizes within which packets stay. Definitions write them out, so that each stands where it is read.
 ghost use Rattle.std.specs.Prelude.{◌≡◌, ◌≤◌, length};
 ghost use Rattle.tva_shim.specs.declared.limits.TheConstants.{HOPS_MAX, MALFORMED_MAX, PAYLOAD_MAX};
-ghost use Rattle.tva_shim.specs.Shims.{ShimData, IsShim};
-ghost use Rattle.tva_shim.specs.Layout.{layout};
+ghost use Rattle.tva_shim.specs.{Shims.ShimData, Shims.IsShim, Layout.layout};
 ghost use Rattle.tva_shim.specs.Packets.{PacketData, IsSizedPacket, packet_length};
 
 /// The greatest length of a payload, in bytes.

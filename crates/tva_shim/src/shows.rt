@@ -1,7 +1,6 @@
 // What a packet shows to the nodes that it passes.
 ghost use Rattle.std.specs.Prelude.{◌≡◌};
-ghost use Rattle.tva_shim.specs.Changes.{last_tag};
-ghost use Rattle.tva_shim.specs.Shows.{entries_in, key_of, inner_key_of};
+ghost use Rattle.tva_shim.specs.{Changes.last_tag, Shows.entries_in, Shows.key_of, Shows.inner_key_of};
 
 use crate::kinds::Kind;
 use crate::packets::{Carried, Packet};

@@ -4,14 +4,11 @@ use Rattle.std.specs.List.{join_with_byte}
 use Rattle.byteorder.specs.Endian.{big_bytes}
 use Rattle.hex.specs.Hex.{encode_lower}
 use Rattle.tva_base.specs.declared.packet.Rights.{Rights}
-use Rattle.tva_shim.specs.declared.entries.Entry.{Entry}
-use Rattle.tva_shim.specs.declared.kinds.Shown.{Shown}
-use Rattle.tva_shim.specs.declared.kinds.Kind.{Kind}
-use Rattle.tva_shim.specs.declared.kinds.Kind.TheVariants as kinds
-use Rattle.tva_shim.specs.declared.kinds.ReturnInfo.{ReturnInfo}
-use Rattle.tva_shim.specs.declared.kinds.ReturnInfo.TheVariants as backs
-use Rattle.tva_shim.specs.Shims.{ShimData, IsShim}
+use Rattle.tva_shim.specs.declared.{entries.Entry.Entry, kinds.Shown.Shown, kinds.Kind.Kind}
+use Rattle.tva_shim.specs.{declared.kinds.ReturnInfo.ReturnInfo, Shims.ShimData, Shims.IsShim}
 use Rattle.tva_shim.specs.Layout.{HaveNoShim, layout}
+use Rattle.tva_shim.specs.declared.kinds.Kind.TheVariants as kinds
+use Rattle.tva_shim.specs.declared.kinds.ReturnInfo.TheVariants as backs
 
 -- a number in so many bytes, two digits each
 abbrev pub digits_of : ℕ → ℕ → List ℕ

@@ -51,7 +51,7 @@ rows_meant (s ∷ said) (x ∷ xs) [] p q = absurd q
 rows_meant (s ∷ said) (x ∷ xs) (y ∷ ys) p q =
     ap (λ z. z ∷ xs) (row_is_one s x y p.0 q.0) ∙ ap (λ zs. y ∷ zs) (rows_meant said xs ys p.1 q.1)
 
-one_said : (a b : List SaidRow) → ◌≡◌ {A = Result (List SaidRow) TraceFault} (Ok a) (Ok b) → a ≡ b
+pub one_said : (a b : List SaidRow) → ◌≡◌ {A = Result (List SaidRow) TraceFault} (Ok a) (Ok b) → a ≡ b
 one_said a b e = cc
 
 pub rows_are_one : (config : Config) (text : List ℕ) (a b : List Row) → AreRows config text a → AreRows config text b → a ≡ b

@@ -18,14 +18,12 @@ use Rattle.tva_trace.specs.Packed.{AnswersPacked}
 use Rattle.tva_trace.specs.declared.rows.TraceError.{TraceError}
 use Rattle.tva_trace.specs.declared.rows.TraceRule.TheVariants as rule
 use Rattle.tva_trace.proofs.ShimsValid.{decimal_fits, shim_fits}
+use Rattle.tva_trace.proofs.OneList.{one_said}
 
 -- ## steps that gave something
 
 ok_one : {A : Type 0} (x y : A) → ◌≡◌ {A = Ruled A} (Ok x) (Ok y) → x ≡ y
 ok_one x y e = cc
-
-ok_rows : (a b : List SaidRow) → ◌≡◌ {A = Result (List SaidRow) TraceFault} (Ok a) (Ok b) → a ≡ b
-ok_rows a b e = cc
 
 -- a chain of steps: each value is a variable where the next step is looked at
 when_held : {A B : Type 0} (P : B → Type 0) (r : Ruled A) (next : A → Ruled B) (y : B)
@@ -106,7 +104,7 @@ then_said config number last filed r next said own more gave = grind (arith, nat
 rows_said : (config : Config) (number last : ℕ) (filed : List ℕ) (records : List (List (List ℕ))) (said : List SaidRow)
     → rows_from config number last filed records ≡ Ok said → AreSaid config number last filed said
 unfolding rows_from
-rows_said config number last filed [] said gave = subst (AreSaid config number last filed) (ok_rows [] said gave) tt
+rows_said config number last filed [] said gave = subst (AreSaid config number last filed) (one_said [] said gave) tt
 rows_said config number last filed (fields ∷ records) said gave =
     then_said config number last filed (row_of config number last (times filed) fields)
     (λ row. rows_from config (number + 1) row.time.0 (filed ++ filed_by row.node row.what) records) said

@@ -1,11 +1,9 @@
 -- Kit: how many rows of each node begin a transfer, as they are counted while a trace is read.
 use Rattle.std.specs.Prelude.{◌≡◌, ◌+◌, ℕ, true, List, [], Option, Some, None, nat_eq}
-use Rattle.std.specs.Option.{unwrap_or}
-use Rattle.std.specs.HashMap.{HashMap, get}
+use Rattle.std.specs.{Option.unwrap_or, HashMap.HashMap, HashMap.get}
 use Rattle.tva_trace.specs.declared.said.SaidWhat as saids
 use Rattle.tva_trace.specs.declared.said.SaidWhat.TheVariants as say
-use Rattle.tva_trace.specs.declared.said.SaidRow.{SaidRow}
-use Rattle.tva_trace.specs.Rows.{filed_by, has_room, times}
+use Rattle.tva_trace.specs.{declared.said.SaidRow.SaidRow, Rows.filed_by, Rows.has_room, Rows.times}
 
 -- how many are counted at a node
 abbrev pub counted : {S : Type 0} → HashMap ℕ ℕ S → ℕ → ℕ

@@ -1,22 +1,14 @@
 -- Product: what the last field of a row says, by the row's kind.
-use Rattle.std.specs.Prelude.{ℕ, ◌/◌, ◌==◌, nat_le, if◌then◌else◌, false, List, [], ◌∷◌, length, Result, Ok, Err}
-use Rattle.std.specs.Prelude.{Option, Some, None}
-use Rattle.std.specs.Option.{option_map}
-use Rattle.std.specs.List.{slice_split}
+use Rattle.std.specs.Prelude.{ℕ, ◌/◌, ◌==◌, nat_le, if◌then◌else◌, false, List, [], ◌∷◌, length, Result, Ok, Err, Option, Some, None}
+use Rattle.std.specs.{Option.option_map, List.slice_split}
 use Rattle.byteorder.specs.Endian.{big_number}
-use Rattle.hex.specs.Hex.{decode_sized}
-use Rattle.hex.specs.declared.error.FromHexError.{FromHexError}
-use Rattle.tva_base.specs.declared.packet.Flow.{Flow}
-use Rattle.tva_base.specs.declared.packet.Rights.{Rights}
-use Rattle.tva_base.specs.Decimal.{decimal_of}
-use Rattle.tva_base.specs.Versions.{seconds_max, units_max, version_for}
-use Rattle.tva_base.specs.Addresses.{parted}
+use Rattle.hex.specs.{declared.error.FromHexError.FromHexError, Hex.decode_sized}
+use Rattle.tva_base.specs.{declared.packet.Flow.Flow, declared.packet.Rights.Rights, Decimal.decimal_of}
+use Rattle.tva_base.specs.{Versions.seconds_max, Versions.units_max, Versions.version_for, Addresses.parted}
 use Rattle.tva_base.specs.Options.{◌>>=◌}
-use Rattle.tva_shim.specs.declared.kinds.Shown.{Shown}
-use Rattle.tva_shim.specs.declared.kinds.Kind.{Kind}
+use Rattle.tva_shim.specs.{declared.kinds.Shown.Shown, declared.kinds.Kind.Kind, Shims.ShimData}
 use Rattle.tva_shim.specs.declared.kinds.Kind.TheVariants as shims
 use Rattle.tva_shim.specs.declared.kinds.ReturnInfo.TheVariants as backs
-use Rattle.tva_shim.specs.Shims.{ShimData}
 use Rattle.tva_caps.specs.Formula.{precap_of, capability_of}
 use Rattle.tva_plan.specs.declared.config.NodePlan.{NodePlan}
 use Rattle.tva_trace.specs.declared.rows.RowKind as kinds

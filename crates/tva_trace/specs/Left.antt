@@ -1,7 +1,6 @@
 -- Kit: what is left in a place that a caller lends, since it is large.
 use Rattle.std.specs.Prelude.{Bool, Option, Some, None, Ok, Err, if◌then◌else◌}
-use Rattle.tva_trace.specs.declared.said.SaidRow.{SaidRow}
-use Rattle.tva_trace.specs.Rows.{Ruled}
+use Rattle.tva_trace.specs.{declared.said.SaidRow.SaidRow, Rows.Ruled}
 
 -- what was left there, or the rule that is broken
 abbrev pub left_in : {A : Type 0} → A → Ruled (Unit {0}) → Ruled A

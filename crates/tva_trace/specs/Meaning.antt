@@ -1,22 +1,18 @@
 -- Product: which rows stand for what a trace says.
 use Rattle.std.specs.Prelude.{◌≡◌, ℕ, List, [], ◌∷◌, ◌++◌, Option, Some, None, Result, Ok, Err, Vec}
-use Rattle.std.specs.List.{AllZip}
-use Rattle.std.specs.declared.alloc.Global.{Global}
+use Rattle.std.specs.{declared.alloc.Global.Global, List.AllZip}
 use Rattle.tva_shim.specs.declared.packets.Carried as carries
 use Rattle.tva_shim.specs.declared.packets.Carried.TheVariants as carried
 use Rattle.tva_plan.specs.declared.config.Config.{Config}
-use Rattle.tva_rows.specs.declared.rows.Row.{Row}
+use Rattle.tva_rows.specs.{declared.rows.Row.Row, Raw.CarriedByBytes}
 use Rattle.tva_rows.specs.declared.rows.RowWhat as whats
 use Rattle.tva_rows.specs.declared.rows.RowWhat.TheVariants as what
-use Rattle.tva_rows.specs.Raw.{CarriedByBytes}
-use Rattle.tva_trace.specs.declared.rows.TraceError.{TraceError}
+use Rattle.tva_trace.specs.{declared.rows.TraceError.TraceError, declared.said.SaidRow.SaidRow, Rows.rows_of}
+use Rattle.tva_trace.specs.declared.said.SaidShim.TheVariants.{Bytes, Built}
 use Rattle.tva_trace.specs.declared.rows.TraceError.TheVariants as error
 use Rattle.tva_trace.specs.declared.said.SaidShim as says
-use Rattle.tva_trace.specs.declared.said.SaidShim.TheVariants.{Bytes, Built}
 use Rattle.tva_trace.specs.declared.said.SaidWhat as saids
 use Rattle.tva_trace.specs.declared.said.SaidWhat.TheVariants as say
-use Rattle.tva_trace.specs.declared.said.SaidRow.{SaidRow}
-use Rattle.tva_trace.specs.Rows.{rows_of}
 
 abbrev pub CarriedBy : says.SaidShim → carries.Carried → Type 0
 CarriedBy (Bytes bytes) c = CarriedByBytes bytes c

@@ -2,10 +2,8 @@
 use Rattle.std.specs.Prelude.{◌≡◌, ℕ, List, Result, Ok, Err}
 use Rattle.tva_plan.specs.declared.config.Config.{Config}
 use Rattle.tva_rows.specs.declared.rows.Row.{Row}
-use Rattle.tva_trace.specs.declared.rows.TraceError.{TraceError}
+use Rattle.tva_trace.specs.{declared.rows.TraceError.TraceError, Rows.rows_of, Meaning.AreRows}
 use Rattle.tva_trace.specs.declared.rows.TraceError.TheVariants as error
-use Rattle.tva_trace.specs.Rows.{rows_of}
-use Rattle.tva_trace.specs.Meaning.{AreRows}
 
 -- an answer is the text's rows, or its first fault, but for want of memory
 abbrev pub AnswersPacked : Config → List ℕ → Result (List Row) TraceError → Type 0

@@ -1,24 +1,17 @@
 -- Product: the rows of a trace, or the first rule that its first bad record breaks.
-use Rattle.std.specs.Prelude.{ℕ, ◌+◌, ◌==◌, ◌&&◌, nat_le, nat_lt, if◌then◌else◌, Bool, List, [], ◌∷◌, length, count_by}
-use Rattle.std.specs.Prelude.{Result, Ok, Err, Option, Some, None, unwrap_or, codes, ◌++◌}
-use Rattle.std.specs.Option.{option_and_then, ok_or}
-use Rattle.std.specs.Str.{bytes_eq}
-use Rattle.csv.specs.Reading.{records, default_config, strip_bom}
-use Rattle.csv.specs.Records.{field_at}
-use Rattle.tva_base.specs.declared.addresses.Address.{Address}
-use Rattle.tva_base.specs.declared.packet.Flow.{Flow}
-use Rattle.tva_base.specs.Decimal.{decimal_of}
+use Rattle.std.specs.Prelude.{ℕ, ◌+◌, ◌==◌, ◌&&◌, nat_le, nat_lt, if◌then◌else◌, Bool, List, [], ◌∷◌, length, count_by, Result, Ok, Err, Option, Some, None, unwrap_or, codes, ◌++◌}
+use Rattle.std.specs.{Option.option_and_then, Option.ok_or, Str.bytes_eq}
+use Rattle.csv.specs.{Reading.records, Reading.default_config, Reading.strip_bom, Records.field_at}
+use Rattle.tva_base.specs.{declared.addresses.Address.Address, declared.packet.Flow.Flow, Decimal.decimal_of}
 use Rattle.tva_base.specs.Addresses.{address_of}
-use Rattle.tva_plan.specs.declared.config.Config.{Config}
-use Rattle.tva_plan.specs.declared.config.NodePlan.{NodePlan}
+use Rattle.tva_plan.specs.declared.config.{Config.Config, NodePlan.NodePlan}
 use Rattle.tva_trace.specs.declared.rows.RowKind as kinds
 use Rattle.tva_trace.specs.declared.rows.RowKind.TheVariants as kind
 use Rattle.tva_trace.specs.declared.rows.TraceRule as rules
 use Rattle.tva_trace.specs.declared.rows.TraceRule.TheVariants as rule
-use Rattle.tva_trace.specs.declared.rows.TraceFault.{TraceFault}
+use Rattle.tva_trace.specs.declared.{rows.TraceFault.TraceFault, said.SaidRow.SaidRow}
 use Rattle.tva_trace.specs.declared.said.SaidWhat as said
 use Rattle.tva_trace.specs.declared.said.SaidWhat.TheVariants as say
-use Rattle.tva_trace.specs.declared.said.SaidRow.{SaidRow}
 use Rattle.tva_plan.specs.Names.{is_host, node_named}
 use Rattle.tva_trace.specs.Items.{row_shim}
 

@@ -1,7 +1,6 @@
 // How many rows of each node begin a transfer.
 ghost use Rattle.std.specs.Prelude.{◌≡◌, ◌<◌, [], ◌∷◌, OnOk};
-ghost use Rattle.tva_trace.specs.Files.{Counts, FindsRoom, counted};
-ghost use Rattle.tva_trace.specs.Rows.{filed_by, has_room};
+ghost use Rattle.tva_trace.specs.{Files.Counts, Files.FindsRoom, Files.counted, Rows.filed_by, Rows.has_room};
 
 use crate::said::SaidWhat;
 use std::alloc::AllocError;

@@ -1,8 +1,6 @@
 // What the last field of a row says.
-ghost use Rattle.std.specs.Prelude.{◌≡◌, ◌<◌, ◌≤◌, ◌^◌, ◌==◌, IfSome, length, position};
-ghost use Rattle.std.specs.Option.{option_map};
+ghost use Rattle.std.specs.Prelude.{◌≡◌, ◌<◌, ◌≤◌, ◌^◌, IfSome, length};
 ghost use Rattle.byteorder.specs.Endian.{big_number};
-ghost use Rattle.tva_base.specs.Addresses.{parted};
 ghost use Rattle.tva_base.specs.Decimal.{decimal_of};
 ghost use Rattle.tva_base.specs.Versions.{AreSomeRights, IsVersion, seconds_max, units_max, version_for};
 ghost use Rattle.tva_shim.specs.Shims.{IsShown, IsKind};
@@ -16,28 +14,9 @@ use crate::said::{RawBytes, SaidShim};
 use crate::secrets::KeptSecrets;
 use byteorder::{BigEndian, ByteOrder};
 use std::collections::HashMap;
-use tva_base::{Caps, Flow, Rights, decimal, seconds_max, units_max, version_for};
+use tva_base::{Caps, Flow, Rights, decimal, part, seconds_max, units_max, version_for};
 use tva_plan::{NodePlan, number_of};
 use tva_shim::{Kind, ReturnInfo, Shim, Shown};
-
-/// What stands before the first such byte, and what stands behind it.
-#[tactic(auto, unfolding(tva_base::specs::Addresses::parted))]
-fn part(text: &[u8], byte: u8) -> Option<(&[u8], &[u8])>
-    ensures { option_map (λ p. (p.0.now, p.1.now)) result ≡ parted byte text.now }
-{
-    match place_of(text, byte) {
-        Some(at) => Some((&text[..at], &text[at + 1..])),
-        None => None,
-    }
-}
-
-/// The place of the first such byte.
-fn place_of(text: &[u8], byte: u8) -> Option<usize>
-    ensures place { result ≡ position (λ b. b == byte) text.now }
-    ensures within { IfSome result (λ at. at < length text.now) }
-{
-    text.iter().position(|b| *b == byte)
-}
 
 /// A nonce: twelve hexadecimal digits.
 fn nonce_of(text: &[u8]) -> Option<u64>

@@ -3,9 +3,8 @@ ghost use Rattle.std.specs.Prelude.{◌≡◌, ◌<◌, ◌≤◌, IfSome, OnOk,
 ghost use Rattle.csv.specs.Records.{fields_of};
 ghost use Rattle.tva_plan.specs.Numbers.{Numbers};
 ghost use Rattle.tva_base.specs.Decimal.{decimal_of};
-ghost use Rattle.tva_trace.specs.Files.{counted};
+ghost use Rattle.tva_trace.specs.{Files.counted, Left.left_in};
 ghost use Rattle.tva_trace.specs.Rows.{filing_of, hold, injection_of, kind_at, positive, row_of, sending_of, ticking_of, what_of};
-ghost use Rattle.tva_trace.specs.Left.{left_in};
 
 use crate::fields::{allowed, field, is_empty, kind_of};
 use crate::files::{FileCounts, has_room};

@@ -2,9 +2,7 @@
 ghost use Rattle.std.specs.Prelude.{◌≡◌, ◌≤◌, ℕ, List, Ok};
 ghost use Rattle.tva_plan.specs.declared.config.Config.{Config};
 ghost use Rattle.tva_rows.specs.declared.rows.Row.{Row};
-ghost use Rattle.tva_trace.specs.declared.said.SaidRow.{SaidRow};
-ghost use Rattle.tva_trace.specs.Rows.{rows_of};
-ghost use Rattle.tva_trace.specs.Meaning.{AreRows};
+ghost use Rattle.tva_trace.specs.{declared.said.SaidRow.SaidRow, Rows.rows_of, Meaning.AreRows};
 ghost use Rattle.tva_rows.specs.Valid.{AreTraceRows, files_at};
 
 /// A text has at most one list of rows under a configuration: two lists of its rows are the same.

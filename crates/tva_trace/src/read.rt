@@ -3,13 +3,10 @@ ghost use Rattle.std.specs.Prelude.{◌≡◌, ◌≤◌, ◌==◌, List, IfOk, 
 ghost use Rattle.csv.specs.Records.{fields_of};
 ghost use Rattle.tva_rows.specs.declared.rows.Row.{Row};
 ghost use Rattle.tva_trace.specs.declared.rows.TraceError.TheVariants as error;
-ghost use Rattle.tva_trace.specs.Files.{Counts, FindsRoom, counted, filed_in};
+ghost use Rattle.tva_trace.specs.{Files.Counts, Files.FindsRoom, Files.counted, Files.filed_in, Packed.AnswersPacked};
 ghost use Rattle.tva_trace.specs.Meaning.{Answers, AreRows, IsPut};
-ghost use Rattle.tva_trace.specs.Packed.{AnswersPacked};
 ghost use Rattle.tva_plan.specs.Numbers.{Numbers};
-ghost use Rattle.tva_trace.specs.Left.{row_where, told_by};
-ghost use Rattle.tva_trace.specs.Rows.{said_by};
-ghost use Rattle.tva_trace.specs.Shortage.{IsShortage};
+ghost use Rattle.tva_trace.specs.{Left.row_where, Left.told_by, Rows.said_by, Shortage.IsShortage};
 ghost use Rattle.tva_rows.specs.Valid.{AreTraceRows};
 
 use crate::fields::is_header;

@@ -1,5 +1,5 @@
 -- Acts and steps in their order.
-use Rattle.tva_transfer.proofs.Common.{◌≡◌, ℕ, true, false, cond, eqb, List, [], ◌∷◌, ◌++◌, Some, None, refl, sym, ap, subst, ◌∙◌, ⊎_elim, cases_Bool, eqb-true, eq-eqb, append-nil, filter_map-append, Act, Step, acts_at, arith, rules, nat_tests, common_steps}
+use Rattle.tva_transfer.proofs.Common.{◌≡◌, ℕ, true, false, eqb, List, [], ◌∷◌, ◌++◌, refl, sym, ap, subst, ◌∙◌, ⊎_elim, cases_Bool, eqb-true, eq-eqb, append-nil, filter_map-append, Act, Step, acts_at, arith}
 use Rattle.std.proofs.Math.Seq.{append_snoc}
 
 -- what holds of no element, and of each list with one more where it holds of the list, holds of all lists

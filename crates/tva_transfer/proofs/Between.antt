@@ -1,5 +1,5 @@
 -- What passes between couriers.
-use Rattle.tva_transfer.proofs.Common.{◌≡◌, ◌≢◌, ℕ, ◌+◌, ◌≤◌, true, cond, List, [], ◌∷◌, ◌++◌, Some, length, sym, ap, subst, ◌∙◌, ⊎_elim, append_assoc, arith, Contains, slice_get, IsSomeAnd, cases_Bool, eqb-true, slice_get_within, Address, Flow, Upper, Nothing, Data, Ack, DataLine, PacketData, Transfer, Files, Act, Came, after_act, files_of, heard, is_addressed_to, next_of, AreFrom, IsSent, IsWithin, Step, acts_at, files_at, ranges_of, sent_by, rules, nat_tests, common_steps}
+use Rattle.tva_transfer.proofs.Common.{◌≡◌, ◌≢◌, ℕ, ◌+◌, ◌≤◌, true, List, [], ◌∷◌, ◌++◌, Some, length, sym, ap, subst, ◌∙◌, append_assoc, arith, Contains, slice_get, cases_Bool, eqb-true, slice_get_within, Address, Flow, Upper, Nothing, Data, Ack, DataLine, PacketData, Transfer, Files, Act, Came, after_act, files_of, heard, is_addressed_to, next_of, AreFrom, IsSent, IsWithin, Step, acts_at, files_at, ranges_of, sent_by}
 use Rattle.tva_transfer.proofs.Acts.{acts_at-step, step_at}
 use Rattle.tva_transfer.proofs.History.{HasCome, next_of-rises, ranges_came}
 use Rattle.tva_transfer.proofs.Sent.{IsKept, IsOf, address_is, acked_came, sent_ack, sent_data, stays}

@@ -1,19 +1,10 @@
 -- Look-ups by a comparison of keys find what look-ups by a test find. A key is an address with a number.
-use Rattle.tva_transfer.proofs.Common.{◌≡◌, ℕ, ◌||◌, ◌&&◌, Bool, true, false, cond, eqb, ltb, ◌≤◌, List, [], ◌∷◌, Option, Some, Ordering, refl, ap, sym, ◌∙◌, arith, list_any, lookup, unwrap_or, is_eq, is_gt, nat_cmp, ordering_then, eq-eqb, le-ltb, ltb-false, or_parts, nat_tests, Address, next_kept, has_key, rules, common_steps}
+use Rattle.tva_transfer.proofs.Common.{◌≡◌, ℕ, ◌||◌, ◌&&◌, Bool, true, false, cond, eqb, ltb, ◌≤◌, List, Some, Ordering, refl, ap, sym, ◌∙◌, arith, list_any, lookup, unwrap_or, is_eq, is_gt, nat_cmp, ordering_then, eq-eqb, le-ltb, ltb-false, or_parts, nat_tests, Address, next_kept, has_key}
 use Rattle.std.specs.declared.cmp.Ordering.TheVariants.{Less, Equal, Greater}
-
-list_any_same : {X : Type 0} (p q : X → Bool) → ((x : X) → p x ≡ q x) → (xs : List X) → list_any p xs ≡ list_any q xs
-list_any_same p q e xs = grind (arith, list_any)
-
-lookup_same : {K X : Type 0} (p q : K → Bool) → ((k : K) → p k ≡ q k) → (es : List (K × X)) → lookup p es ≡ lookup q es
-lookup_same p q e [] = refl
-lookup_same {X = X} p q e (x ∷ xs) = ap (λ b. cond b (Some x.1) (lookup p xs)) (e x.0) ∙ ap (λ (o : Option X). cond (q x.0) (Some x.1) o) (lookup_same p q e xs)
+use Rattle.tva_base.proofs.Each.{list_any_same, lookup_same, is_eq-nat_cmp}
 
 abbrev pub key_cmp : Address × ℕ → Address × ℕ → Ordering
 key_cmp x y = ordering_then (nat_cmp x.0.0 y.0.0) (nat_cmp x.1 y.1)
-
-is_eq-nat_cmp : (x y : ℕ) → is_eq (nat_cmp x y) ≡ eqb x y
-is_eq-nat_cmp x y = grind (arith, nat_tests)
 
 is_eq-then : (o p : Ordering) → is_eq (ordering_then o p) ≡ (is_eq o && is_eq p)
 is_eq-then o p = elim o as (λ v. is_eq (ordering_then v p) ≡ (is_eq v && is_eq p)) [ Less ↦ refl | Equal ↦ refl | Greater ↦ refl ]

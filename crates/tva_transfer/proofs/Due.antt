@@ -1,9 +1,7 @@
 -- Which transfers are due, after a transfer begins and after more of one is acknowledged.
-use Rattle.tva_transfer.proofs.Common.{◌≡◌, ℕ, ◌<◌, ◌≤◌, ◌&&◌, Bool, true, false, cond, eqb, ltb, List, [], ◌∷◌, ◌++◌, length, get_or, set, Some, None, refl, sym, ap, ◌∙◌, ⊎_elim, arith, position, position_or_len, slice_get, option_map_or, cases_Bool, and_parts, and_right, eqb-true, lt-ltb, le-ltb, cases_lt, false≢true, nat_tests, position_or_len_is, slice_get_past, slice_get_within, slice_get-get_or, Address, Transfer, Files, begun, is_due, segment_due, segment_of, IsSized, IsSound, has_key, is_due_at, rules, common_steps}
+use Rattle.tva_transfer.proofs.Common.{◌≡◌, ℕ, ◌<◌, ◌≤◌, ◌&&◌, Bool, true, false, cond, eqb, List, [], ◌∷◌, ◌++◌, length, get_or, set, Some, None, refl, sym, ap, ◌∙◌, arith, position, position_or_len, slice_get, option_map_or, cases_Bool, and_parts, and_right, eqb-true, lt-ltb, le-ltb, cases_lt, position_or_len_is, slice_get_past, slice_get_within, slice_get-get_or, Address, Transfer, Files, begun, is_due, segment_due, segment_of, IsSized, IsSound, has_key, is_due_at}
+use Rattle.tva_base.proofs.Each.{eqb-sym}
 use Rattle.tva_transfer.proofs.Places.{slice_get-push, slice_get-set}
-
-eqb-sym : (a b : ℕ) → eqb a b ≡ eqb b a
-eqb-sym a b = grind (arith, nat_tests)
 
 started : (b is : Bool) → is ≡ true → cond (b && true) true false ≡ (b && is)
 started b is so = rw so (elim b as (λ v. cond (v && true) true false ≡ (v && true)) [ true ↦ refl | false ↦ refl ])

@@ -1,7 +1,7 @@
 -- What a host knows of files, and which act it came from.
-use Rattle.tva_transfer.proofs.Common.{◌≡◌, ℕ, ◌+◌, ◌≤◌, ◌&&◌, ◌⊎◌, true, false, cond, eqb, List, [], ◌∷◌, ◌++◌, Some, map, refl, sym, ap, subst, inl, inr, ◌∙◌, ⊎_elim, append_assoc, add-zero, zero-add, add_assoc, arith, Contains, filter, sum_by, and_parts, cases_Bool, cond_both, eqb-true, append-nil, map-append, Contains-push_cases, filter-append, sum_by-cons, Address, Upper, Nothing, Data, Ack, DataLine, PacketData, Files, Act, Filed, Ticked, Came, after_act, after_upper, files_of, heard, is_of, next_of, range_of, with_range, Follow, ranges_of, rules, nat_tests, common_steps}
+use Rattle.tva_transfer.proofs.Common.{◌≡◌, ℕ, ◌+◌, ◌≤◌, ◌⊎◌, cond, eqb, List, [], ◌∷◌, ◌++◌, Some, map, refl, sym, ap, subst, inl, inr, ◌∙◌, ⊎_elim, append_assoc, add-zero, zero-add, add_assoc, arith, Contains, filter, sum_by, and_parts, cases_Bool, cond_both, eqb-true, append-nil, map-append, Contains-push_cases, filter-append, sum_by-cons, Address, Upper, Data, DataLine, PacketData, Files, Act, Filed, Ticked, Came, after_act, after_upper, files_of, heard, is_of, next_of, range_of, with_range, Follow, ranges_of, rules}
 use Rattle.tva_transfer.proofs.Acts.{by_last}
-use Rattle.tva_transfer.proofs.Knowing.{behind, next_of-after, next_of-same}
+use Rattle.tva_transfer.proofs.Knowing.{next_of-after, next_of-same}
 use Rattle.tva_transfer.proofs.Standing.{files_of-push}
 
 -- ## ranges follow one another

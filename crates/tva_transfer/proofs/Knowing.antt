@@ -1,5 +1,5 @@
 -- What a courier knows of files, after what comes in.
-use Rattle.tva_transfer.proofs.Common.{◌≡◌, ℕ, ◌+◌, true, false, cond, eqb, ltb, ◌&&◌, List, [], ◌∷◌, Some, None, refl, sym, ap, ◌∙◌, ⊎_elim, add-zero, zero-add, set, length, ◌≤◌, lookup, filter, slice_get, sum_by, unwrap_or, cases_Bool, and_parts, eqb-true, eq-eqb, filter-append, sum_by-append, set-get_or, get_or_from_slice_get, slice_get_past, Transfer, Address, Upper, Nothing, Data, Ack, DataLine, Files, after_upper, answer_to, acknowledged, is_more, is_of, next_of, range_of, segment_of, with_range, CourierData, Knows, next_kept, arith, rules, nat_tests, common_steps}
+use Rattle.tva_transfer.proofs.Common.{◌≡◌, ℕ, ◌+◌, true, false, cond, eqb, ltb, ◌&&◌, List, Some, None, refl, sym, ap, ◌∙◌, add-zero, zero-add, set, length, ◌≤◌, slice_get, sum_by, cases_Bool, and_parts, eqb-true, eq-eqb, filter-append, sum_by-append, set-get_or, get_or_from_slice_get, slice_get_past, Transfer, Address, Upper, Nothing, Data, Ack, DataLine, Files, after_upper, answer_to, acknowledged, is_more, is_of, next_of, range_of, segment_of, with_range, CourierData, Knows, next_kept, arith}
 
 -- where a range begins is kept by the source and the transfer alone
 pub next_kept-same : (nexts : List ((Address × ℕ) × ℕ)) (source s : Address) (transfer t : ℕ) → (eqb source.0 s.0 && eqb transfer t) ≡ true → next_kept nexts s t ≡ next_kept nexts source transfer

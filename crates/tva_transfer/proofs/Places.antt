@@ -1,5 +1,5 @@
 -- Lists by place, after an element was written or added.
-use Rattle.tva_transfer.proofs.Common.{◌≡◌, ℕ, zero, suc, Bool, true, false, cond, eqb, List, [], ◌∷◌, ◌++◌, length, set, Some, None, refl, sym, ap, ◌∙◌, arith, slice_get, option_map, nat_tests, ne_eqb, rules, common_steps}
+use Rattle.tva_transfer.proofs.Common.{◌≡◌, ℕ, zero, suc, Bool, true, false, cond, eqb, List, [], ◌∷◌, ◌++◌, length, set, Some, None, refl, sym, ap, ◌∙◌, arith, slice_get, option_map, nat_tests, ne_eqb}
 
 eqb-suc : (a b : ℕ) → eqb (suc a) (suc b) ≡ eqb a b
 eqb-suc a b = grind (arith, nat_tests)

@@ -1,5 +1,5 @@
 -- What a host sends belongs to its transfers, and what it takes as acknowledged came in.
-use Rattle.tva_transfer.proofs.Common.{◌≡◌, ℕ, ◌+◌, ◌-◌, ◌≤◌, ◌&&◌, ◌⊎◌, true, false, cond, eqb, ltb, min, List, [], ◌∷◌, ◌++◌, Option, Some, None, length, set, refl, sym, ap, subst, inl, inr, ◌∙◌, ⊎_elim, append_assoc, arith, position, slice_get, option_and_then, option_map, option_map_or, and_parts, cases_Bool, eqb-true, eq-eqb, ne_eqb, ltb-true, append-nil, get_or_from_slice_get, slice_get_within, some_pair_parts, Address, Flow, Upper, Nothing, Data, Ack, DataLine, Transfer, Files, Act, Filed, Ticked, Came, acknowledged, after_act, after_upper, answer_to, begun, files_of, first_segment, heard, is_due, is_more, next_of, number_of, range_of, segment_behind, segment_due, segment_of, with_acked, with_range, sent_by, to_from, rules, nat_tests, common_steps}
+use Rattle.tva_transfer.proofs.Common.{◌≡◌, ℕ, ◌+◌, ◌-◌, ◌≤◌, ◌&&◌, ◌⊎◌, true, false, cond, eqb, ltb, List, [], ◌∷◌, ◌++◌, Option, Some, None, length, set, refl, sym, ap, subst, inl, inr, ◌∙◌, ⊎_elim, append_assoc, arith, position, slice_get, option_and_then, option_map, option_map_or, and_parts, cases_Bool, eqb-true, eq-eqb, ne_eqb, ltb-true, append-nil, get_or_from_slice_get, slice_get_within, some_pair_parts, Address, Flow, Upper, Nothing, Data, Ack, DataLine, Transfer, Files, Act, Filed, Ticked, Came, acknowledged, after_act, after_upper, answer_to, begun, files_of, first_segment, heard, is_due, is_more, next_of, number_of, segment_behind, segment_due, segment_of, with_acked, with_range, sent_by, to_from}
 use Rattle.std.proofs.lemmas.List.Quantifiers.{position-Some}
 use Rattle.tva_transfer.proofs.Acts.{by_last}
 use Rattle.tva_transfer.proofs.History.{HasCome, come_before, come_now}

@@ -1,5 +1,5 @@
 -- For which calls and acts a courier stands, after one more.
-use Rattle.tva_transfer.proofs.Common.{◌≡◌, ℕ, List, [], ◌∷◌, ◌++◌, Result, Ok, Err, sym, ap, subst, ◌∙◌, fold-append, Address, Call, Files, Act, Filed, after_act, begun, files_of, next_of, no_files, CourierData, Knows, StandsFor, known, next_kept, arith, rules, nat_tests, common_steps}
+use Rattle.tva_transfer.proofs.Common.{◌≡◌, ℕ, List, [], ◌∷◌, ◌++◌, Result, sym, ap, subst, ◌∙◌, fold-append, Address, Call, Files, Act, Filed, after_act, begun, files_of, no_files, CourierData, Knows, StandsFor, known, arith}
 use Rattle.std.specs.Result.{OnErr}
 use Rattle.tva_base.specs.declared.plan.HostPlan.{HostPlan}
 use Rattle.tva_host.specs.Stands as host

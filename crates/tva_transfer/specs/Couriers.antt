@@ -1,17 +1,10 @@
 -- Product: several couriers, each at a host of its own: what passes between them.
-use Rattle.std.specs.Prelude.{◌≡◌, ◌≢◌, ℕ, ◌+◌, ◌≤◌, ◌==◌, true, if◌then◌else◌, List, [], ◌∷◌, ◌++◌, map, filter}
-use Rattle.std.specs.Prelude.{Option, Some, None}
-use Rattle.std.specs.Option.{option_map, IsSomeAnd}
-use Rattle.std.specs.List.{filter_map}
-use Rattle.tva_base.specs.declared.addresses.Address.{Address}
-use Rattle.tva_base.specs.declared.packet.Flow.{Flow}
-use Rattle.tva_base.specs.declared.packet.Upper.{Upper}
-use Rattle.tva_base.specs.declared.packet.Upper.TheVariants.{Nothing}
-use Rattle.tva_base.specs.declared.event.DataLine.{DataLine}
+use Rattle.std.specs.Prelude.{◌≡◌, ◌≢◌, ℕ, ◌+◌, ◌≤◌, ◌==◌, true, if◌then◌else◌, List, [], ◌∷◌, ◌++◌, map, filter, Option, Some, None}
+use Rattle.std.specs.{Option.option_map, Option.IsSomeAnd, List.filter_map}
+use Rattle.tva_base.specs.declared.{addresses.Address.Address, packet.Flow.Flow, packet.Upper.Upper, packet.Upper.TheVariants.Nothing, event.DataLine.DataLine}
 use Rattle.tva_shim.specs.Packets.{PacketData}
 use Rattle.tva_transfer.specs.declared.transfers.Transfer.{Transfer}
-use Rattle.tva_transfer.specs.Files.{Files, Act, Filed, Ticked, Came, files_of, first_segment, segment_due, answered}
-use Rattle.tva_transfer.specs.Files.{is_addressed_to, is_of}
+use Rattle.tva_transfer.specs.Files.{Files, Act, Filed, Ticked, Came, files_of, first_segment, segment_due, answered, is_addressed_to, is_of}
 
 -- an act at the courier of that number
 pub record Step : Type 0 where

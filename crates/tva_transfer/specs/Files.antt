@@ -2,10 +2,8 @@
 use Rattle.std.specs.Prelude.{ℕ, ◌==◌, ◌-◌, ◌%◌, min, nat_lt, Bool, ◌&&◌, if◌then◌else◌, List, [], ◌∷◌, ◌++◌}
 use Rattle.std.specs.Prelude.{length, slice_get, slice_set, filter, position, sum_by, fold, Option, Some, None}
 use Rattle.std.specs.Option.{option_map, option_map_or, option_and_then}
-use Rattle.tva_base.specs.declared.addresses.Address.{Address}
-use Rattle.tva_base.specs.declared.packet.Upper.{Upper}
+use Rattle.tva_base.specs.declared.{addresses.Address.Address, packet.Upper.Upper, event.DataLine.DataLine}
 use Rattle.tva_base.specs.declared.packet.Upper.TheVariants.{Nothing, Data, Ack}
-use Rattle.tva_base.specs.declared.event.DataLine.{DataLine}
 use Rattle.tva_shim.specs.Packets.{PacketData}
 use Rattle.tva_transfer.specs.declared.transfers.Transfer.{Transfer}
 

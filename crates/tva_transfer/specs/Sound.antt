@@ -1,13 +1,8 @@
 -- Kit: what holds of every courier of the program, for the invariant of its model.
 use Rattle.std.specs.Prelude.{ℕ, ◌≡◌, ◌≤◌, ◌==◌, ◌&&◌, Bool, false, List, slice_get, Some}
-use Rattle.std.specs.List.{list_any}
-use Rattle.std.specs.Map.{lookup}
-use Rattle.std.specs.Option.{option_map_or}
-use Rattle.tva_base.specs.declared.addresses.Address.{Address}
-use Rattle.tva_base.specs.declared.packet.Upper.{Upper}
-use Rattle.tva_base.specs.declared.packet.Upper.TheVariants.{Data}
-use Rattle.tva_transfer.specs.declared.transfers.Transfer.{Transfer}
-use Rattle.tva_transfer.specs.Files.{is_due}
+use Rattle.std.specs.{List.list_any, Map.lookup, Option.option_map_or}
+use Rattle.tva_base.specs.declared.{addresses.Address.Address, packet.Upper.Upper, packet.Upper.TheVariants.Data}
+use Rattle.tva_transfer.specs.{declared.transfers.Transfer.Transfer, Files.is_due}
 
 -- a file of at most 100,000,000 bytes, in segments of at most 1,500
 abbrev pub IsSized : Transfer → Type 0

@@ -1,12 +1,9 @@
 -- Crate: what a courier keeps, and for which calls on its host and acts it stands.
 use Rattle.std.specs.Prelude.{◌≡◌, ℕ, ◌==◌, ◌&&◌, List, unwrap_or}
 use Rattle.std.specs.Map.{lookup}
-use Rattle.tva_base.specs.declared.addresses.Address.{Address}
-use Rattle.tva_base.specs.declared.packet.Upper.{Upper}
+use Rattle.tva_base.specs.declared.{addresses.Address.Address, packet.Upper.Upper}
 use Rattle.tva_shim.specs.Packets.{upper_size}
-use Rattle.tva_host.specs.declared.made.Made.{Made}
-use Rattle.tva_host.specs.Calls.{Call, Intended, history_of}
-use Rattle.tva_host.specs.Sending.{intended}
+use Rattle.tva_host.specs.{declared.made.Made.Made, Calls.Call, Calls.Intended, Calls.history_of, Sending.intended}
 use Rattle.tva_host.specs.Stands as host
 use Rattle.tva_transfer.specs.declared.transfers.Transfer.{Transfer}
 use Rattle.tva_transfer.specs.Files.{Files, Act, files_of, next_of}

@@ -1,11 +1,9 @@
 // A host that sends files.
 ghost use Rattle.std.specs.Prelude.{◌≡◌, ◌≤◌, ◌<◌, ◌+◌, ◌^◌, ◌==◌, if◌then◌else◌, ◌∷◌, [], ◌++◌, List, IfOk, OnErr, IfSome, IfNone, ℕ, true, false};
-ghost use Rattle.std.specs.List.{cons_option};
-ghost use Rattle.std.specs.Option.{option_map};
+ghost use Rattle.std.specs.{List.cons_option, Option.option_map};
 ghost use Rattle.tva_base.specs.Plan.{IsHostPlan};
 ghost use Rattle.tva_shim.specs.Packets.{IsCarried, IsUpper};
-ghost use Rattle.tva_host.specs.Sending.{intended, next_packet};
-ghost use Rattle.tva_host.specs.Receiving.{receipt_of};
+ghost use Rattle.tva_host.specs.{Sending.intended, Sending.next_packet, Receiving.receipt_of};
 ghost use Rattle.tva_host.specs.Calls.{Call, Intended, Injected, Received, history_of};
 ghost use Rattle.tva_transfer.specs.Files.{Files, Act, Filed, Ticked, Came, after_upper, answer_to, answered, delivered, first_segment, heard, range_of, segment_due};
 ghost use Rattle.tva_transfer.specs.Stands.{CourierData, Knows, StandsFor, call_with, known, sent_with};
@@ -37,8 +35,7 @@ pub struct Courier {
 }
 
 impl Model for Courier {
-    ghost use Rattle.tva_transfer.specs.Stands.{CourierData, courier_data};
-    ghost use Rattle.tva_transfer.specs.Sound.{IsSound};
+    ghost use Rattle.tva_transfer.specs.{Stands.CourierData, Stands.courier_data, Sound.IsSound};
 
     ghost Value = { CourierData };
 

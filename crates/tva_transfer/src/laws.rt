@@ -1,9 +1,7 @@
 // What holds of the ranges that couriers deliver, and of what they take as acknowledged.
 ghost use Rattle.std.specs.Prelude.{◌≡◌, ℕ, ◌≤◌, ◌++◌, Contains, List, Some, length, slice_get};
-ghost use Rattle.tva_base.specs.declared.addresses.Address.{Address};
-ghost use Rattle.tva_base.specs.declared.event.DataLine.{DataLine};
-ghost use Rattle.tva_transfer.specs.declared.transfers.Transfer.{Transfer};
-ghost use Rattle.tva_transfer.specs.Files.{Act, files_of, next_of};
+ghost use Rattle.tva_base.specs.declared.{addresses.Address.Address, event.DataLine.DataLine};
+ghost use Rattle.tva_transfer.specs.{declared.transfers.Transfer.Transfer, Files.Act, Files.files_of, Files.next_of};
 ghost use Rattle.tva_transfer.specs.Couriers.{AreFrom, Follow, IsWithin, Step, files_at, ranges_of};
 
 /// Whatever comes in at a host, the ranges that it delivers of a source's transfer follow one another

@@ -1,8 +1,9 @@
 -- What several proofs of this crate name, by where it stands.
-pub use Rattle.std.proofs.Common.{eqb-true, ◌≡◌, ℕ, zero, suc, ◌+◌, ◌<◌, ◌≤◌, List, [], ◌∷◌, ◌++◌, length, map, get_or, set, Option, Some, None, true, false, refl, sym, subst, ◌∙◌, ap, ap₂, arith, inl, inr, ◌⊎◌, ◌-◌, take, add-one, Bool, deque_len, rules, ◌*◌, drop}
+pub use Rattle.std.proofs.Common.{◌≡◌, ℕ, zero, suc, ◌+◌, ◌<◌, ◌≤◌, List, [], ◌∷◌, ◌++◌, length, map, get_or, set, Option, Some, None, true, false, refl, sym, subst, ◌∙◌, ap, ap₂, arith, inl, inr, ◌⊎◌, ◌-◌, take, add-one, Bool, deque_len, rules, ◌*◌, drop}
 pub use Rattle.std.proofs.Math.Seq.{map-set_same, take-suc, take-length, drop-append-add}
-pub use Rattle.std.proofs.lemmas.Bool.{ne_eqb, cases_Bool, cases_eq, cond-true, cond-false, eq-eqb}
-pub use Rattle.std.proofs.lemmas.List.{get_or-set_other, get_or-set_same, length-map, get_or-map, length-append, length-set, map-append, map-set, set-get_or, append-nil, take_all, length-drop}
+pub use Rattle.std.proofs.lemmas.Bool.{cases_lt, ne_eqb, cases_Bool, cases_eq, cond-true, cond-false, eq-eqb}
+pub use Rattle.std.proofs.lemmas.Bool.Decides.{nat_tests}
+pub use Rattle.std.proofs.lemmas.List.{get_or_default, length-take, get_or-set_other, get_or-set_same, length-map, get_or-map, length-append, length-set, map-append, map-set, set-get_or, append-nil, take_all, length-drop}
 pub use Rattle.std.specs.List.{AllByRecursion, list_any}
 pub use Rattle.std.specs.Prelude.{insert, ◌==◌, ◌||◌, ◌^◌, not, nat_lt, ◌&&◌}
 pub use Rattle.std.specs.Vec.{with_item}

@@ -1,16 +1,13 @@
 -- Lanes, the table that finds them and the one that says which has the next input.
-use Rattle.tva_waiting.proofs.Common.{eqb-true, ◌≡◌, ℕ, zero, suc, ◌+◌, ◌<◌, ◌≤◌, List, [], ◌∷◌, ◌++◌, length, map, get_or, set, Option, Some, None, true, false, refl, sym, subst, ◌∙◌, ap, ap₂, arith, inl, inr, ◌⊎◌, insert, ◌==◌, ◌||◌, ◌^◌, AllByRecursion, list_any, ne_eqb, cases_Bool, cases_eq, cond-true, cond-false, get_or-set_other, get_or-set_same, length-map, place_in, IsLeastPlace, MayPrecede, IsInOrder, precedes, put_in, each-append, each-weaker, Input, input_source, input_time, AreQueues, IsNextIn, IsQueue, Queue, all_in, head_at, head_of, key_of, never, no_queue}
-use Rattle.std.specs.Prelude.{◌*◌}
+use Rattle.tva_waiting.proofs.Common.{nat_tests, ◌≡◌, ℕ, zero, suc, ◌+◌, ◌<◌, ◌≤◌, List, [], ◌∷◌, ◌++◌, length, map, get_or, set, Option, Some, None, true, false, refl, sym, subst, ◌∙◌, ap, ap₂, arith, insert, ◌==◌, ◌^◌, AllByRecursion, list_any, ne_eqb, cond-false, get_or-set_other, get_or-set_same, length-map, place_in, IsLeastPlace, MayPrecede, IsInOrder, precedes, put_in, each-append, each-weaker, Input, input_source, input_time, AreQueues, IsNextIn, IsQueue, Queue, all_in, head_at, head_of, key_of, never, no_queue, get_or_default}
 use Rattle.std.specs.List.{IsDistinct}
 use Rattle.std.specs.Option.{option_map}
 use Rattle.std.proofs.lemmas.Map.Steps.{length-le_from_distinct_below}
-use Rattle.tva_run.proofs.Joins.{each-map}
+use Rattle.tva_run.proofs.Joins.{each-map, may_precede_trans}
+use Rattle.tva_waiting.proofs.Queues.{queue_at}
+use Rattle.tva_base.proofs.Each.{each-of_map}
 
 -- ## what stands before others
-
-map_each : {X Y : Type 0} (f : X → Y) (P : Y → Type 0) (xs : List X) → AllByRecursion P (map f xs) → AllByRecursion (λ x. P (f x)) xs
-map_each f P [] h = tt
-map_each f P (x ∷ xs) h = (h.0, map_each f P xs h.1)
 
 module _ {X : Type 0} (f : X → Input) (time source : X → ℕ) (t : (x : X) → time x ≡ input_time (f x)) (s : (x : X) → source x ≡ input_source (f x)) where
   may : (x y : X) → MayPrecede input_time input_source (f x) (f y) → MayPrecede time source x y
@@ -19,57 +16,31 @@ module _ {X : Type 0} (f : X → Input) (time source : X → ℕ) (t : (x : X) �
   -- what are in order as inputs are so as they lie in memory
   pub in_order_held : (xs : List X) → IsInOrder input_time input_source (map f xs) → IsInOrder time source xs
   in_order_held [] h = tt
-  in_order_held (x ∷ xs) h = (each-weaker (λ y. MayPrecede input_time input_source (f x) (f y)) (MayPrecede time source x) (λ y m. may x y m) xs (map_each f (MayPrecede input_time input_source (f x)) xs h.0), in_order_held xs h.1)
+  in_order_held (x ∷ xs) h = (each-weaker (λ y. MayPrecede input_time input_source (f x) (f y)) (MayPrecede time source x) (λ y m. may x y m) xs (each-of_map f (MayPrecede input_time input_source (f x)) xs h.0), in_order_held xs h.1)
 
   same_test : (x y : X) → precedes input_time input_source (f x) (f y) ≡ precedes time source x y
   same_test x y = rw (t x, t y, s x, s y) refl
 
   pub map-put_in : (x : X) (xs : List X) → map f (put_in time source x xs) ≡ put_in input_time input_source (f x) (map f xs)
   map-put_in x [] = refl
-  map-put_in x (y ∷ ys) = elim (cases_Bool (precedes time source x y)) [
-    | inl a ↦
-        ap (map f) (cond-true (precedes time source x y) (x ∷ y ∷ ys) (y ∷ put_in time source x ys) a)
-        ∙ sym (cond-true (precedes input_time input_source (f x) (f y)) (f x ∷ f y ∷ map f ys) (f y ∷ put_in input_time input_source (f x) (map f ys)) (same_test x y ∙ a))
-    | inr a ↦
-        ap (map f) (cond-false (precedes time source x y) (x ∷ y ∷ ys) (y ∷ put_in time source x ys) a)
-        ∙ (ap (λ (zs : List Input). f y ∷ zs) (map-put_in x ys)
-        ∙ sym (cond-false (precedes input_time input_source (f x) (f y)) (f x ∷ f y ∷ map f ys) (f y ∷ put_in input_time input_source (f x) (map f ys)) (same_test x y ∙ a)))
-  ]
+  map-put_in x (y ∷ ys) = grind (arith, nat_tests, same_test, (map-put_in x ys))
 
 -- one put in behind the first leaves the first
 pub head-insert : {X : Type 0} (f : X → Input) (xs : List X) (n : ℕ) (x : X) → 0 < n → n ≤ length xs → head_of (map f (insert xs n x)) ≡ head_of (map f xs)
-head-insert f [] n x l m = absurd (omega arith)
-head-insert f (y ∷ ys) zero x l m = absurd (omega arith)
-head-insert f (y ∷ ys) (suc n) x l m = refl
+head-insert f xs n x l m = grind (arith, nat_tests)
 
 -- ## a source is found
 
 place_behind : (o : Option ℕ) (place : ℕ) → option_map (λ n. suc n) o ≡ Some place → (n : ℕ) × (o ≡ Some n) × (place ≡ suc n)
-place_behind None place e = absurd (cc)
-place_behind (Some n) place e = (n, refl, cc)
+place_behind o place e = grind (arith, nat_tests)
 
 pub found : (key : ℕ) (keys : List ℕ) (place : ℕ) → place_in key keys ≡ Some place → (place < length keys) × ((d : ℕ) → get_or keys place d ≡ key)
 found key [] place e = absurd (cc)
-found key (k ∷ ks) place e = elim (cases_Bool (k == key)) [
-  | inl a ↦
-      let here : place ≡ 0 = (let h = sym (cond-true (k == key) (Some 0) (option_map (λ n. suc n) (place_in key ks)) a) ∙ e in cc) in
-      (omega (arith, here), λ d. ap (λ n. get_or (k ∷ ks) n d) here ∙ eqb-true k key a)
-  | inr a ↦
-      let b = place_behind (place_in key ks) place (sym (cond-false (k == key) (Some 0) (option_map (λ n. suc n) (place_in key ks)) a) ∙ e) in
-      let l = found key ks b.0 b.1 in
-      (omega (arith, b.2, l.0), λ d. ap (λ m. get_or (k ∷ ks) m d) b.2 ∙ l.1 d)
-]
+found key (k ∷ ks) place e = grind (arith, nat_tests, place_behind, (found key ks))
 
 pub not_found : (key : ℕ) (keys : List ℕ) → place_in key keys ≡ None → AllByRecursion (λ k. (k == key) ≡ false) keys
 not_found key [] e = tt
-not_found key (k ∷ ks) e = elim (cases_Bool (k == key)) [
-  | inl a ↦ absurd (let h = sym (cond-true (k == key) (Some 0) (option_map (λ n. suc n) (place_in key ks)) a) ∙ e in cc)
-  | inr a ↦ (a, not_found key ks (nothing (place_in key ks) (sym (cond-false (k == key) (Some 0) (option_map (λ n. suc n) (place_in key ks)) a) ∙ e)))
-]
-  where
-    nothing : (o : Option ℕ) → option_map (λ n. suc n) o ≡ None → o ≡ None
-    nothing None e = refl
-    nothing (Some n) e = absurd (cc)
+not_found key (k ∷ ks) e = grind (arith, nat_tests, (not_found key ks))
 
 -- a key that is none of the others isn't found
 pub new_key : (key : ℕ) (keys : List ℕ) → AllByRecursion (λ k. (k == key) ≡ false) keys → place_in key keys ≡ None
@@ -96,34 +67,14 @@ head_at-end (r ∷ qs) source (suc place) = head_at-end qs source place
 
 pub heads-set : (heads : List ℕ) (qs : List Queue) (p v : ℕ) (q : Queue) → ((place : ℕ) → get_or heads place never ≡ head_at qs place) → p < length heads → p < length qs → v ≡ head_of q.inputs
     → (place : ℕ) → get_or (set heads p v) place never ≡ head_at (set qs p q) place
-heads-set heads qs p v q h l m e place = elim (cases_eq place p) [
-  | inl k ↦
-      ap (λ n. get_or (set heads p v) n never) k
-      ∙ (get_or-set_same heads p v never l
-      ∙ (e
-      ∙ (sym (ap (λ (o : Queue). head_of o.inputs) (get_or-set_same qs p q no_queue m))
-      ∙ ap (λ n. head_at (set qs p q) n) (sym k))))
-  | inr n ↦ get_or-set_other heads p place v never n ∙ (h place ∙ sym (ap (λ (o : Queue). head_of o.inputs) (get_or-set_other qs p place q no_queue n)))
-]
-
-before_by_key : (x y : Input) → input_source x < 2 ^ 17 → input_source y < 2 ^ 17 → key_of x ≤ key_of y → MayPrecede input_time input_source x y
-before_by_key x y a b l = by_number (input_time x) (input_source x) (input_time y) (input_source y) a b l
-  where
-    by_number : (t s u v : ℕ) → s < 2 ^ 17 → v < 2 ^ 17 → t * 2 ^ 32 + s ≤ u * 2 ^ 32 + v → (t < u) ⊎ ((t ≡ u) × (s ≤ v))
-    by_number t s u v a b l = grind (arith)
+heads-set heads qs p v q h l m e place = grind (arith, nat_tests, never, get_or-set_same, get_or-set_other)
 
 -- no input is as late as none
 is_some : (x : Input) → input_source x < 2 ^ 17 → input_time x < 2 ^ 64 → never ≤ key_of x → ⊥
 is_some x a b l = omega (arith, a, b, l)
 
 first_before : (x : Input) (ys : List Input) (s : ℕ) → input_source x < 2 ^ 17 → s < 2 ^ 17 → AllByRecursion (λ y. input_source y ≡ s) ys → IsInOrder input_time input_source ys → key_of x ≤ head_of ys → AllByRecursion (MayPrecede input_time input_source x) ys
-first_before x [] s a b f o l = tt
-first_before x (y ∷ ys) s a b f o l =
-    let first = before_by_key x y a (subst (λ n. n < 2 ^ 17) (sym f.0) b) l in
-    (first, each-weaker (MayPrecede input_time input_source y) (MayPrecede input_time input_source x) (λ z k. trans (input_time x) (input_source x) (input_time y) (input_source y) (input_time z) (input_source z) first k) ys o.0)
-  where
-    trans : (a b c d e g : ℕ) → (a < c) ⊎ ((a ≡ c) × (b ≤ d)) → (c < e) ⊎ ((c ≡ e) × (d ≤ g)) → (a < e) ⊎ ((a ≡ e) × (b ≤ g))
-    trans a b c d e g h k = grind (arith)
+first_before x ys s a b f o l = grind (arith, nat_tests, each-weaker, may_precede_trans)
 
 all_before : (x : Input) (qs : List Queue) → input_source x < 2 ^ 17 → AreQueues qs → ((place : ℕ) → place < length qs → key_of x ≤ head_at qs place) → AllByRecursion (MayPrecede input_time input_source x) (all_in qs)
 all_before x [] a q l = tt
@@ -139,31 +90,18 @@ none_waits (r ∷ qs) q l = ap₂ ◌++◌ (empty r.inputs q.0 refl (l 0 (omega 
     empty [] i e m = e
     empty (x ∷ xs) i e m = absurd (is_some x (let f = (rw e at i.from).0 in subst (λ n. n < 2 ^ 17) (sym f) i.few) (rw e at i.soon).0 (subst (λ ys. never ≤ head_of ys) e m))
 
-queue_at : (qs : List Queue) (place : ℕ) → AreQueues qs → place < length qs → IsQueue (get_or qs place no_queue)
-queue_at [] place a l = absurd (omega arith)
-queue_at (q ∷ qs) zero a l = a.0
-queue_at (q ∷ qs) (suc place) a l = queue_at qs place a.2 (omega (arith, l))
-
 pub in_range : (qs : List Queue) (place : ℕ) (x : Input) (rest : List Input) → (get_or qs place no_queue).inputs ≡ x ∷ rest → place < length qs
 in_range [] place x rest e = absurd (cc)
 in_range (q ∷ qs) zero x rest e = omega arith
 in_range (q ∷ qs) (suc place) x rest e = omega (arith, in_range qs place x rest e)
 
-pub any_default : {X : Type 0} (xs : List X) (n : ℕ) (d e : X) → n < length xs → get_or xs n d ≡ get_or xs n e
-any_default [] n d e l = absurd (omega arith)
-any_default (x ∷ xs) zero d e l = refl
-any_default (x ∷ xs) (suc n) d e l = any_default xs n d e (omega (arith, l))
-
 module _ (qs : List Queue) (a : AreQueues qs) (heads : List ℕ) (room : length qs ≤ length heads) (h : (place : ℕ) → get_or heads place never ≡ head_at qs place) (p : ℕ) (least : IsLeastPlace heads (Some p)) where
   least_head : (place : ℕ) → place < length qs → head_at qs p ≤ head_at qs place
-  least_head place l =
-      let m : place < length heads = omega (arith, l, room) in
-      subst (λ n. n ≤ head_at qs place) (any_default heads p 0 never least.0 ∙ h p) (subst (λ n. get_or heads p 0 ≤ n) (any_default heads place 0 never m ∙ h place) (least.1 place m))
+  least_head place l = grind (arith, nat_tests, get_or_default, never)
 
   pub least_next : (x : Input) (rest : List Input) → (get_or qs p no_queue).inputs ≡ x ∷ rest → IsNextIn qs (get_or qs p no_queue) x rest
   least_next x rest e =
-      let l = in_range qs p x rest e in
-      let i = queue_at qs p a l in
+      let i = queue_at qs p no_queue a (in_range qs p x rest e) in
       let few : input_source x < 2 ^ 17 = (let f = (rw e at i.from).0 in subst (λ n. n < 2 ^ 17) (sym f) i.few) in
       record {
         first = e;
@@ -177,10 +115,7 @@ module _ (qs : List Queue) (a : AreQueues qs) (heads : List ℕ) (room : length 
 
 sources_below : (qs : List Queue) → AreQueues qs → (s : ℕ) → list_any (λ n. s == n) (map (λ q. q.source) qs) ≡ true → s < 2 ^ 17
 sources_below [] a s h = absurd (cc)
-sources_below (q ∷ qs) a s h = elim (cases_Bool (s == q.source)) [
-  | inl e ↦ subst (λ n. n < 2 ^ 17) (sym (eqb-true s q.source e)) a.0.few
-  | inr e ↦ sources_below qs a.2 s (subst (λ b. (b || list_any (λ n. s == n) (map (λ q. q.source) qs)) ≡ true) e h)
-]
+sources_below (q ∷ qs) a s h = grind (arith, nat_tests, (sources_below qs a.2 s))
 
 distinct : (qs : List Queue) → AreQueues qs → IsDistinct (λ m n. m == n) (map (λ q. q.source) qs)
 unfolding IsDistinct

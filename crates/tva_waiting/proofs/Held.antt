@@ -1,7 +1,6 @@
 -- The queues that lanes stand for.
-use Rattle.tva_waiting.proofs.Common.{◌≡◌, ℕ, zero, suc, ◌+◌, ◌-◌, ◌<◌, ◌≤◌, List, [], ◌∷◌, ◌++◌, length, map, get_or, set, take, Some, None, true, false, refl, sym, subst, ◌∙◌, ap, ap₂, arith, add-one, inl, inr, Bool, ◌⊎◌, deque_len, insert, not, ◌==◌, ◌^◌, AllByRecursion, eq-eqb, ne_eqb, cases_eq, get_or-map, get_or-set_other, get_or-set_same, length-append, length-map, length-set, map-append, map-set, set-get_or, map-set_same, place_in, ring, IsInOrder, put_in, sorted, Input, Arrival, FromTrace, input_source, input_time, each-put_in, arrived, first_time, is_row_first, AreQueues, IsNextIn, IsQueue, Queue, all_in, head_at, head_of, key_of, never, no_queue, AreWaiting, HaveGiven, Hold, IsLaneOf, flight_source, flight_time, lane_queue, queues_in, queues_of, row_in, rows_queue, sources_of, turn_source, turn_time, waiting_in, Lane, Lanes}
-use Rattle.tva_rows.specs.declared.rows.RowWhat.{RowWhat}
-use Rattle.tva_rows.specs.Brief.{Grows, IsWhatHeld, what_in}
+use Rattle.tva_waiting.proofs.Common.{nat_tests, ◌≡◌, ℕ, zero, suc, ◌+◌, ◌-◌, ◌<◌, ◌≤◌, List, [], ◌∷◌, ◌++◌, length, map, get_or, set, take, Some, None, true, false, refl, sym, subst, ◌∙◌, ap, ap₂, arith, add-one, inl, inr, Bool, deque_len, insert, not, ◌==◌, ◌^◌, AllByRecursion, eq-eqb, ne_eqb, get_or-map, get_or-set_other, get_or-set_same, length-append, length-map, length-set, map-append, map-set, set-get_or, map-set_same, place_in, ring, IsInOrder, put_in, sorted, Input, Arrival, FromTrace, input_source, input_time, each-put_in, arrived, first_time, is_row_first, AreQueues, IsNextIn, IsQueue, Queue, all_in, head_at, head_of, key_of, never, no_queue, AreWaiting, HaveGiven, Hold, IsLaneOf, flight_source, flight_time, lane_queue, queues_in, queues_of, row_in, rows_queue, sources_of, turn_source, turn_time, waiting_in, Lane, Lanes, cases_lt}
+use Rattle.tva_rows.specs.Brief.{Grows, IsWhatHeld}
 use Rattle.tva_rows.proofs.Packing.{held-grown, what-grown}
 use Rattle.tva_run.specs.declared.kinds.Sending.{Sending}
 use Rattle.tva_waiting.specs.declared.lanes.Turn.{Turn}
@@ -66,24 +65,13 @@ grown_held old new (turn ∷ turns) g h = (subst (λ (bytes : List ℕ). IsWhatH
 
 grown_rows : (old new : List ℕ) (turns : List Turn) → Grows old new → AllByRecursion (λ (turn : Turn). IsWhatHeld old turn.what) turns → map (row_in new) turns ≡ map (row_in old) turns
 grown_rows old new [] g h = refl
-grown_rows old new (turn ∷ turns) g h =
-    ap₂ ◌∷◌
-    (ap (λ (w : RowWhat). FromTrace (record { time = record { 0 = turn.time }; node = turn.node; what = w })) (ap (λ (bytes : List ℕ). what_in bytes turn.what) g.1 ∙ what-grown old g.0 turn.what h.0))
-    (grown_rows old new turns g h.1)
+grown_rows old new (turn ∷ turns) g h = grind (arith, nat_tests, what-grown, (grown_rows old new turns g h.1))
 
 -- ## other lanes of the same queues, and of one queue that is another
 
 module _ (w v : Lanes) (a : AreWaiting w) (held : AllByRecursion (λ (turn : Turn). IsWhatHeld v.layouts.items turn.what) v.rows.items) (sources : v.sources ≡ ring v.places (sources_of v.list.items)) where
   pub waiting_changed : (qs : List Queue) → queues_in v ≡ qs → AreQueues qs → length qs ≤ v.places → v.places ≤ 2 ^ 18 → length v.heads ≡ v.places → ((place : ℕ) → get_or v.heads place never ≡ head_at qs place) → AreWaiting v
-  waiting_changed qs e i room few count heads = record {
-    queues = subst AreQueues (sym e) i;
-    held = held;
-    sources = sources;
-    room = subst (λ (os : List Queue). length os ≤ v.places) (sym e) room;
-    few = few;
-    count = count;
-    heads = λ place. heads place ∙ ap (λ (os : List Queue). head_at os place) (sym e);
-  }
+  waiting_changed qs e i room few count heads = grind (arith, nat_tests)
 
 pub in_order_same : (w v : Lanes) → queues_in v ≡ queues_in w → waiting_in v ≡ waiting_in w
 in_order_same w v e = ap (λ (qs : List Queue). sorted input_time input_source (all_in qs)) e
@@ -101,10 +89,7 @@ waiting_grown w v a g rows list sources heads places =
 
 -- the heads as they were serve where the first of the changed queue is as it was
 pub heads-kept : (heads : List ℕ) (qs : List Queue) (p : ℕ) (q : Queue) → ((place : ℕ) → get_or heads place never ≡ head_at qs place) → p < length qs → head_of q.inputs ≡ head_at qs p → (place : ℕ) → get_or heads place never ≡ head_at (set qs p q) place
-heads-kept heads qs p q h l e place = elim (cases_eq place p) [
-  | inl k ↦ h place ∙ (ap (λ n. head_at qs n) k ∙ (sym e ∙ (sym (ap (λ (o : Queue). head_of o.inputs) (get_or-set_same qs p q no_queue l)) ∙ ap (λ n. head_at (set qs p q) n) (sym k))))
-  | inr n ↦ h place ∙ sym (ap (λ (o : Queue). head_of o.inputs) (get_or-set_other qs p place q no_queue n))
-]
+heads-kept heads qs p q h l e place = grind (arith, nat_tests, get_or-set_same, l, get_or-set_other)
 
 -- ## a row more
 
@@ -128,9 +113,7 @@ flight_put sent flights = map-put_in arrived flight_time flight_source (λ s. re
 
 -- a lane that is another, among the queues
 pub lane_set : (layouts : List ℕ) (turns : List Turn) (lanes : List Lane) (place : ℕ) (lane : Lane) → queues_of layouts turns (set lanes place lane) ≡ set (queues_of layouts turns lanes) (place + 1) (lane_queue lane)
-lane_set layouts turns lanes place lane =
-    ap (λ (qs : List Queue). rows_queue layouts turns ∷ qs) (map-set lane_queue lanes place lane)
-    ∙ ap (λ n. set (queues_of layouts turns lanes) n (lane_queue lane)) (sym (add-one place))
+lane_set layouts turns lanes place lane = grind (arith, nat_tests, map-set)
 
 pub queue_of_lane : (layouts : List ℕ) (turns : List Turn) (lanes : List Lane) (place : ℕ) (d : Lane) (e : Queue) → place < length lanes → get_or (queues_of layouts turns lanes) (place + 1) e ≡ lane_queue (get_or lanes place d)
 queue_of_lane layouts turns lanes place d e l = ap (λ n. get_or (queues_of layouts turns lanes) n e) (add-one place) ∙ get_or-map lane_queue lanes place d e l
@@ -161,17 +144,11 @@ module _ (w v : Lanes) (a : AreWaiting w) (held : AllByRecursion (λ (turn : Tur
   abbrev was : Queue
   was = get_or (queues_in w) p no_queue
 
-  found_still : v.sources ≡ ring v.places (sources_of v.list.items)
-  found_still = sources ∙ (a.sources ∙ ap₂ ring (sym places) (sym links))
-
   in_heads : p < length w.heads
   in_heads = omega (arith, l, a.room, a.count)
 
   with_queue : (q : Queue) → queues_in v ≡ set (queues_in w) p q → AreQueues (set (queues_in w) p q) → length v.heads ≡ length w.heads → ((place : ℕ) → get_or v.heads place never ≡ head_at (set (queues_in w) p q) place) → AreWaiting v
-  with_queue q same i count heads =
-      waiting_changed w v a held found_still (set (queues_in w) p q) same i
-      (subst (λ n. n ≤ v.places) (sym (length-set (queues_in w) p q)) (subst (λ n. length (queues_in w) ≤ n) (sym places) a.room))
-      (subst (λ n. n ≤ 2 ^ 18) (sym places) a.few) (count ∙ (a.count ∙ sym places)) heads
+  with_queue q same i count heads = grind (arith, nat_tests, waiting_changed, length-set, links)
 
   module _ (x : Input) (e : input_source x ≡ was.source) (soon : input_time x < 2 ^ 64) where
     abbrev put : Queue
@@ -286,11 +263,7 @@ module _ (w v : Lanes) (place : ℕ) (lane : Lane) (a : AreWaiting w) (within : 
   is_lane = queue_of_lane w.layouts.items w.rows.items w.list.items place lane no_queue within
 
   another : queues_in v ≡ set (queues_in w) (place + 1) (lane_queue lane)
-  another =
-      ap (λ ls. queues_of ls.items v.rows.items v.list.items) layouts
-      ∙ (ap (λ ts. queues_of w.layouts.items ts.items v.list.items) rows
-      ∙ (ap (λ (ls : List Lane). queues_of w.layouts.items w.rows.items ls) list
-      ∙ lane_set w.layouts.items w.rows.items w.list.items place lane))
+  another = grind (arith, nat_tests, lane_set)
 
   pub flight_waits : (at : ℕ) (sent : Sending) → was_lane.link ≡ sent.link → sent.arrive.0 < 2 ^ 64 → lane.flights.items ≡ put_in flight_time flight_source sent was_lane.flights.items → lane.flights.items ≡ insert was_lane.flights.items at sent → at ≤ length was_lane.flights.items
       → (at ≡ 0 → v.heads ≡ set w.heads (place + 1) (key_of (arrived sent))) → ((at ≡ 0 → ⊥) → v.heads ≡ w.heads) → Hold v (put_in input_time input_source (arrived sent) (waiting_in w))
@@ -330,13 +303,7 @@ module _ (w v : Lanes) (place : ℕ) (lane : Lane) (a : AreWaiting w) (within : 
 
   -- it got room, and nothing else
   pub same_flights : lane.flights.items ≡ was_lane.flights.items → v.heads ≡ w.heads → Hold v (waiting_in w)
-  same_flights flights heads =
-      let queue : lane_queue lane ≡ get_or (queues_in w) (place + 1) no_queue = ap₂ (λ (n : ℕ) (xs : List Input). record { source = n; inputs = xs }) (ap (λ n. n + 1) link) (ap (map arrived) flights) ∙ sym is_lane in
-      let same : queues_in v ≡ queues_in w = another ∙ (ap (set (queues_in w) (place + 1)) queue ∙ set-get_or (queues_in w) (place + 1) no_queue) in (
-        waiting_changed w v a still_held (sources ∙ (a.sources ∙ ap₂ ring (sym places) (sym links))) (queues_in w) same a.queues (subst (λ n. length (queues_in w) ≤ n) (sym places) a.room) (subst (λ n. n ≤ 2 ^ 18) (sym places) a.few)
-            (ap length heads ∙ (a.count ∙ sym places)) (λ p. ap (λ (hs : List ℕ). get_or hs p never) heads ∙ a.heads p),
-        in_order_same w v same,
-      )
+  same_flights flights heads = grind (arith, nat_tests, arrived, is_lane, another, set-get_or, waiting_changed, still_held, links, never, in_order_same)
 
 -- where the next is no row, a lane has it
 pub lane_next : (w : Lanes) (p : ℕ) → AreWaiting w → ((x : Input) (rest : List Input) → (get_or (queues_in w) p no_queue).inputs ≡ x ∷ rest → IsNextIn (queues_in w) (get_or (queues_in w) p no_queue) x rest) → ((get_or (queues_in w) p no_queue).inputs ≡ [] → all_in (queues_in w) ≡ [])
@@ -359,9 +326,8 @@ lane_next w p a some none waits row = by_inputs (get_or (queues_in w) p no_queue
             row_there : (ts : List Turn) → w.rows.items ≡ ts → map (row_in w.layouts.items) w.rows.items ≡ x ∷ rest → ⊥
             row_there [] g h = absurd (let i = sym (ap (map (row_in w.layouts.items)) g) ∙ h in cc)
             row_there (t ∷ ts) g h =
-                let first = (first_is (queues_in w) p no_queue a.queues l some none).1 in
                 let is : (get_or (queues_in w) p no_queue).inputs ≡ row_in w.layouts.items t ∷ map (row_in w.layouts.items) ts = ap (λ n. (get_or (queues_in w) n no_queue).inputs) f ∙ ap (map (row_in w.layouts.items)) g in
-                absurd (let i = sym row ∙ (first ∙ ap is_row_first is) in cc)
+                absurd (let i = sym row ∙ (((first_is (queues_in w) p no_queue a.queues l some none).1) ∙ ap is_row_first is) in cc)
         by_place (suc k) f =
             let within : k < length w.list.items = (let m = length-map w.list.items lane_queue in omega (arith, l, f, m)) in
             let down : p - 1 ≡ k = ap (λ n. n - 1) f ∙ back k in (
@@ -384,16 +350,13 @@ lane_in_order w a place d l =
 module _ (w : Lanes) (p : ℕ) (a : AreWaiting w) (some : (x : Input) (rest : List Input) → (get_or (queues_in w) p no_queue).inputs ≡ x ∷ rest → IsNextIn (queues_in w) (get_or (queues_in w) p no_queue) x rest) (none : (get_or (queues_in w) p no_queue).inputs ≡ [] → all_in (queues_in w) ≡ []) where
   -- of the queue at the place, as of all
   pub next_is : (first_time (waiting_in w) ≡ first_time (get_or (queues_in w) p no_queue).inputs) × (is_row_first (waiting_in w) ≡ is_row_first (get_or (queues_in w) p no_queue).inputs)
-  next_is = elim (split p (length (queues_in w))) [
+  next_is = elim (cases_lt p (length (queues_in w))) [
     | inl l ↦ first_is (queues_in w) p no_queue a.queues l some none
     | inr l ↦
         let past : get_or (queues_in w) p no_queue ≡ no_queue = queue_past w.layouts.items w.rows.items w.list.items p (let m = length-map w.list.items lane_queue in omega (arith, m, l)) in
         let nothing : waiting_in w ≡ [] = ap (sorted input_time input_source) (none (ap (λ (q : Queue). q.inputs) past)) in
         (ap first_time nothing ∙ sym (ap (λ (q : Queue). first_time q.inputs) past), ap is_row_first nothing ∙ sym (ap (λ (q : Queue). is_row_first q.inputs) past))
   ]
-    where
-      split : (m n : ℕ) → (m < n) ⊎ (n ≤ m)
-      split m n = grind (arith)
 
   pub row_is_next : p ≡ 0 → (empty : Bool) → empty ≡ (deque_len w.rows == 0) → deque_len w.rows ≡ length w.rows.items → not empty ≡ is_row_first (waiting_in w)
   row_is_next e empty f many = ap not f ∙ (ap (λ n. not (n == 0)) many ∙ (by_rows w.rows.items ∙ sym (next_is.1 ∙ ap (λ n. is_row_first (get_or (queues_in w) n no_queue).inputs) e)))

@@ -1,10 +1,10 @@
 -- Queues of several sources, and the one list in order that they make.
-use Rattle.tva_waiting.proofs.Common.{◌≡◌, ℕ, zero, suc, ◌<◌, ◌≤◌, List, [], ◌∷◌, ◌++◌, length, get_or, set, true, false, refl, sym, subst, ◌∙◌, ap, ap₂, arith, inl, inr, ◌⊎◌, nat_lt, ◌==◌, ◌||◌, ◌&&◌, ◌^◌, AllByRecursion, eq-eqb, ne_eqb, cases_Bool, cases_eq, cond-true, cond-false, append-nil, get_or-set_same, length-set, MayPrecede, IsInOrder, from_source, precedes, put_in, sorted, NeverFalls, each-append, each-weaker, filter-true, filter-false, filter-all, filter-none, join_unique, before_yes, each-put_all, each-put_in, each_from_sources, in_order-put_all, in_order-put_in, source-put_all, strictly_trans, Input, input_source, input_time, Arrival, FromTrace, first_time, is_row_first, AreQueues, IsNextIn, IsQueue, Queue, all_in}
-use Rattle.std.proofs.lemmas.Bool.Decides.{nat_tests}
+use Rattle.tva_waiting.proofs.Common.{nat_tests, ◌≡◌, ℕ, zero, suc, ◌<◌, ◌≤◌, List, [], ◌∷◌, ◌++◌, length, get_or, set, true, false, refl, sym, subst, ◌∙◌, ap, ap₂, arith, inl, inr, ◌⊎◌, nat_lt, ◌==◌, ◌||◌, ◌&&◌, ◌^◌, AllByRecursion, eq-eqb, ne_eqb, cases_Bool, cases_eq, cond-true, cond-false, append-nil, get_or-set_same, length-set, MayPrecede, IsInOrder, from_source, precedes, put_in, sorted, NeverFalls, each-append, each-weaker, filter-true, filter-false, filter-all, filter-none, join_unique, before_yes, each-put_all, each-put_in, each_from_sources, in_order-put_all, in_order-put_in, source-put_all, strictly_trans, Input, input_source, input_time, Arrival, FromTrace, first_time, is_row_first, AreQueues, IsNextIn, IsQueue, Queue, all_in}
 use Rattle.std.proofs.lemmas.List.Elements.{filter-append}
 use Rattle.tva_run.proofs.Putting.{source-put_in_other}
 use Rattle.tva_run.proofs.LogWalks.{each_front}
 use Rattle.tva_run.proofs.Joins.{each-right}
+use Rattle.tva_base.proofs.Each.{each-at}
 
 -- ## one source of a list in order
 
@@ -18,10 +18,7 @@ module _ {X : Type 0} (time source : X → ℕ) where
 
   each_of : (P : X → Type 0) (s : ℕ) (xs : List X) → AllByRecursion P xs → AllByRecursion P (from_source source s xs)
   each_of P s [] h = tt
-  each_of P s (x ∷ xs) h = elim (cases_Bool (source x == s)) [
-    | inl a ↦ rw (filter-true (λ z. source z == s) x xs a) (h.0, each_of P s xs h.1)
-    | inr a ↦ rw (filter-false (λ z. source z == s) x xs a) (each_of P s xs h.1)
-  ]
+  each_of P s (x ∷ xs) h = grind (arith, nat_tests, filter-true, filter-false, (each_of P s xs h.1))
 
   -- what is put in stands where it would stand among those of its source alone
   source-put_in_own : (x : X) (ys : List X) → IsInOrder time source ys → from_source source (source x) (put_in time source x ys) ≡ put_in time source x (from_source source (source x) ys)
@@ -78,10 +75,7 @@ none_of_all s (q ∷ qs) a n = of-append s q.inputs (all_in qs) ∙ ap₂ ◌++�
 -- all of one source are those of its queue
 own : (qs : List Queue) (p : ℕ) (d : Queue) → AreQueues qs → p < length qs → of (get_or qs p d).source (all_in qs) ≡ (get_or qs p d).inputs
 own [] p d a l = absurd (omega arith)
-own (q ∷ qs) zero d a l =
-    of-append q.source q.inputs (all_in qs)
-    ∙ (ap₂ ◌++◌ (all_own q.source q.inputs a.0.from) (none_of_all q.source qs a.2 a.1)
-    ∙ append-nil q.inputs)
+own (q ∷ qs) zero d a l = grind (arith, nat_tests, of-append, all_in, all_own, none_of_all, append-nil)
 own (q ∷ qs) (suc p) d a l =
     let m : p < length qs = omega arith in
     of-append (get_or qs p d).source q.inputs (all_in qs)
@@ -96,27 +90,17 @@ own (q ∷ qs) (suc p) d a l =
 others : (s : ℕ) (qs : List Queue) (p : ℕ) (q d : Queue) → p < length qs → of s q.inputs ≡ of s (get_or qs p d).inputs → of s (all_in (set qs p q)) ≡ of s (all_in qs)
 others s [] p q d l e = absurd (omega arith)
 others s (r ∷ qs) zero q d l e = of-append s q.inputs (all_in qs) ∙ (ap (λ (xs : List Input). xs ++ of s (all_in qs)) e ∙ sym (of-append s r.inputs (all_in qs)))
-others s (r ∷ qs) (suc p) q d l e =
-    of-append s r.inputs (all_in (set qs p q))
-    ∙ (ap (λ (xs : List Input). of s r.inputs ++ xs) (others s qs p q d (omega arith) e)
-    ∙ sym (of-append s r.inputs (all_in qs)))
+others s (r ∷ qs) (suc p) q d l e = grind (arith, nat_tests, of-append, all_in, (others s qs p q d (omega arith) e))
 
 each-set : {X : Type 0} (P : X → Type 0) (xs : List X) (p : ℕ) (x : X) → AllByRecursion P xs → P x → AllByRecursion P (set xs p x)
 each-set P [] p x h k = tt
 each-set P (y ∷ xs) zero x h k = (k, h.1)
 each-set P (y ∷ xs) (suc p) x h k = (h.0, each-set P xs p x h.1 k)
 
-each-at : {X : Type 0} (P : X → Type 0) (xs : List X) (p : ℕ) (d : X) → AllByRecursion P xs → p < length xs → P (get_or xs p d)
-each-at P [] p d h l = absurd (omega arith)
-each-at P (x ∷ xs) zero d h l = h.0
-each-at P (x ∷ xs) (suc p) d h l = each-at P xs p d h.1 (omega arith)
-
 queues-set : (qs : List Queue) (p : ℕ) (q d : Queue) → AreQueues qs → p < length qs → IsQueue q → q.source ≡ (get_or qs p d).source → AreQueues (set qs p q)
 queues-set [] p q d a l i e = tt
 queues-set (r ∷ qs) zero q d a l i e = (i, each-weaker (λ o. o.source ≡ r.source → ⊥) (λ o. o.source ≡ q.source → ⊥) (λ o n h. n (h ∙ e)) qs a.1, a.2)
-queues-set (r ∷ qs) (suc p) q d a l i e =
-    let m : p < length qs = omega arith in
-    (a.0, each-set (λ o. o.source ≡ r.source → ⊥) qs p q a.1 (λ h. each-at (λ o. o.source ≡ r.source → ⊥) qs p d a.1 m (sym e ∙ h)), queues-set qs p q d a.2 m i e)
+queues-set (r ∷ qs) (suc p) q d a l i e = grind (arith, nat_tests, each-set, each-at, (queues-set qs p q d a.2))
 
 pub queue_at : (qs : List Queue) (p : ℕ) (d : Queue) → AreQueues qs → p < length qs → IsQueue (get_or qs p d)
 queue_at [] p d a l = absurd (omega arith)
@@ -144,12 +128,7 @@ of_all qs a s = source-put_all input_time input_source (all_in qs) [] tt (never_
 -- ## one more
 
 pub queue-put : (q : Queue) (x : Input) → IsQueue q → input_source x ≡ q.source → input_time x < 2 ^ 64 → IsQueue (record { source = q.source; inputs = put_in input_time input_source x q.inputs })
-queue-put q x i e l = record {
-  few = i.few;
-  from = each-put_in input_time input_source (λ y. input_source y ≡ q.source) x q.inputs e i.from;
-  soon = each-put_in input_time input_source (λ y. input_time y < 2 ^ 64) x q.inputs l i.soon;
-  in_order = in_order-put_in input_time input_source x q.inputs i.in_order;
-}
+queue-put q x i e l = grind (arith, nat_tests, each-put_in, in_order-put_in)
 
 module _ (qs : List Queue) (p : ℕ) (d : Queue) (x : Input) (a : AreQueues qs) (l : p < length qs) (e : input_source x ≡ (get_or qs p d).source) (soon : input_time x < 2 ^ 64) where
   abbrev pub with_put : Queue
@@ -168,19 +147,11 @@ module _ (qs : List Queue) (p : ℕ) (d : Queue) (x : Input) (a : AreQueues qs) 
       ∙ sym (source-put_in_own input_time input_source x (in_turn qs) (in_turn_ordered qs))))
 
   put_there : (s : ℕ) → (input_source x ≡ s → ⊥) → of s (in_turn (set qs p with_put)) ≡ of s (put_in input_time input_source x (in_turn qs))
-  put_there s n =
-      of_all (set qs p with_put) queues_put s
-      ∙ (others s qs p with_put d l (source-put_in_other input_time input_source s x (get_or qs p d).inputs n)
-      ∙ (sym (of_all qs a s)
-      ∙ sym (source-put_in_other input_time input_source s x (in_turn qs) n)))
+  put_there s n = cc (of_all (set qs p with_put) queues_put s, others s qs p with_put d l (source-put_in_other input_time input_source s x (get_or qs p d).inputs n), of_all qs a s, source-put_in_other input_time input_source s x (in_turn qs) n)
 
   -- an input that is put into its queue is put into the one list
   pub put_one : in_turn (set qs p with_put) ≡ put_in input_time input_source x (in_turn qs)
-  put_one = join_unique input_time input_source (in_turn (set qs p with_put)) (put_in input_time input_source x (in_turn qs)) (in_turn_ordered (set qs p with_put)) (in_order-put_in input_time input_source x (in_turn qs) (in_turn_ordered qs))
-      (λ s. elim (cases_eq (input_source x) s) [
-        | inl h ↦ subst (λ k. of k (in_turn (set qs p with_put)) ≡ of k (put_in input_time input_source x (in_turn qs))) h put_here
-        | inr h ↦ put_there s h
-      ])
+  put_one = grind (arith, nat_tests, join_unique, in_turn_ordered, in_order-put_in, put_here, put_there)
 
 -- ## the next
 
@@ -189,20 +160,12 @@ each-all P [] p q d l h w = absurd (omega arith)
 each-all P (r ∷ qs) zero q d l h w = each-append P q.inputs (all_in qs) (w (each_front P r.inputs (all_in qs) h)) (each-right P r.inputs (all_in qs) h)
 each-all P (r ∷ qs) (suc p) q d l h w = each-append P r.inputs (all_in (set qs p q)) (each_front P r.inputs (all_in qs) h) (each-all P qs p q d (omega arith) (each-right P r.inputs (all_in qs) h) w)
 
-queue-rest : (q : Queue) (x : Input) (rest : List Input) → q.inputs ≡ x ∷ rest → IsQueue q → IsQueue (record { source = q.source; inputs = rest })
-queue-rest q x rest e i = record {
-  few = i.few;
-  from = (rw e at i.from).1;
-  soon = (rw e at i.soon).1;
-  in_order = (rw e at i.in_order).1;
-}
-
 module _ (qs : List Queue) (p : ℕ) (d : Queue) (x : Input) (rest : List Input) (a : AreQueues qs) (l : p < length qs) (n : IsNextIn qs (get_or qs p d) x rest) where
   abbrev pub without : Queue
   without = record { source = (get_or qs p d).source; inputs = rest }
 
   pub queues_taken : AreQueues (set qs p without)
-  queues_taken = queues-set qs p without d a l (queue-rest (get_or qs p d) x rest n.first (queue_at qs p d a l)) refl
+  queues_taken = grind (arith, nat_tests, queues-set, queue_at)
 
   is_own : input_source x ≡ (get_or qs p d).source
   is_own = (rw n.first at (queue_at qs p d a l).from).0
@@ -227,10 +190,7 @@ module _ (qs : List Queue) (p : ℕ) (d : Queue) (x : Input) (rest : List Input)
   taken_there : (s : ℕ) → (input_source x ≡ s → ⊥) → of s (in_turn qs) ≡ of s (x ∷ in_turn (set qs p without))
   taken_there s m =
       let skip : of s rest ≡ of s (get_or qs p d).inputs = sym (ap (of s) n.first ∙ filter-false (λ z. input_source z == s) x rest (ne_eqb (input_source x) s m)) in
-      of_all qs a s
-      ∙ (sym (others s qs p without d l skip)
-      ∙ (sym (of_all (set qs p without) queues_taken s)
-      ∙ sym (filter-false (λ z. input_source z == s) x (in_turn (set qs p without)) (ne_eqb (input_source x) s m))))
+      cc (of_all qs a s, others s qs p without d l skip, of_all (set qs p without) queues_taken s, filter-false (λ z. input_source z == s) x (in_turn (set qs p without)) (ne_eqb (input_source x) s m))
 
   -- the next of all is the first of the one list
   pub taken_one : in_turn qs ≡ x ∷ in_turn (set qs p without)

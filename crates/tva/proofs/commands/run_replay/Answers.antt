@@ -5,63 +5,32 @@ use Rattle.tva.proofs.commands.run_replay.Goals as goal
 
 pub returns-in-Err-clause-answer : goal.returns-in-Err-clause-answer
 returns-in-Err-clause-answer g c =
-    let S = g.S.Shelf in
-    let W = g.W.Sink in
-    replay_no_plan (S.gave c.args.shelf.now) (S.gave c.load_plan.new.shelf) c.args.config.now c.args.trace.now
-    (Rose (W.faults c.args.out.now) (W.faults c.args.out.now)) (W.took c.args.out.now) c.in-Err.status c.in-Err.ensures.err
+    replay_no_plan (g.S.Shelf.gave c.args.shelf.now) (g.S.Shelf.gave c.load_plan.new.shelf) c.args.config.now c.args.trace.now
+    (Rose (g.W.Sink.faults c.args.out.now) (g.W.Sink.faults c.args.out.now)) (g.W.Sink.took c.args.out.now) c.in-Err.status c.in-Err.ensures.err
 
 pub returns-in-Err-load_rows-clause-in_order : goal.returns-in-Err-load_rows-clause-in_order
 returns-in-Err-load_rows-clause-in_order g c =
-    let S = g.S.Shelf in
-    let first = S.gave c.args.shelf.now in
-    let between = S.gave c.load_plan.new.shelf in
-    let last = S.gave c.load_rows.new.shelf in
-    let config = c.args.config.now in
-    let trace = c.args.trace.now in
-    let asked = c.in-Ok.ensures.asked in
-    let later = asked_one between last trace [] c.in-Err-load_rows.ensures.asked in
-    asked_more first between last config (trace ∷ []) asked later
+    let later = asked_one _ _ _ [] c.in-Err-load_rows.ensures.asked in
+    asked_more _ _ _ _ (c.args.trace.now ∷ []) c.in-Ok.ensures.asked later
 
 pub returns-in-Err-load_rows-clause-told : goal.returns-in-Err-load_rows-clause-told
 returns-in-Err-load_rows-clause-told g c =
-    let S = g.S.Shelf in
-    let first = S.gave c.args.shelf.now in
-    let between = S.gave c.load_plan.new.shelf in
-    let last = S.gave c.load_rows.new.shelf in
-    let config = c.args.config.now in
-    let trace = c.args.trace.now in
-    let asked = c.in-Ok.ensures.asked in
-    let later = asked_one between last trace [] c.in-Err-load_rows.ensures.asked in
-    told_both first between last (trace ∷ []) config asked later (S.held c.args.shelf.now) (S.held c.load_plan.new.shelf)
-    (Rose (S.faults c.load_plan.new.shelf) (S.faults c.load_rows.new.shelf)) (Rose (S.faults c.args.shelf.now) (S.faults c.load_rows.new.shelf))
+    let later = asked_one _ _ _ [] c.in-Err-load_rows.ensures.asked in
+    told_both _ _ _ (c.args.trace.now ∷ []) _ c.in-Ok.ensures.asked later (g.S.Shelf.held c.args.shelf.now) (g.S.Shelf.held c.load_plan.new.shelf)
+    (Rose (g.S.Shelf.faults c.load_plan.new.shelf) (g.S.Shelf.faults c.load_rows.new.shelf)) (Rose (g.S.Shelf.faults c.args.shelf.now) (g.S.Shelf.faults c.load_rows.new.shelf))
     c.in-Err-load_rows.status c.in-Ok.ensures.held (λ up. rw c.in-Ok.ensures.unfailed at up) c.in-Ok.ensures.told c.in-Err-load_rows.ensures.told
 
 pub returns-in-Err-load_rows-clause-answer : goal.returns-in-Err-load_rows-clause-answer
 returns-in-Err-load_rows-clause-answer g c =
-    let S = g.S.Shelf in
-    let W = g.W.Sink in
-    let first = S.gave c.args.shelf.now in
-    let between = S.gave c.load_plan.new.shelf in
-    let last = S.gave c.load_rows.new.shelf in
-    let config = c.args.config.now in
-    let trace = c.args.trace.now in
-    let asked = c.in-Ok.ensures.asked in
-    let later = asked_one between last trace [] c.in-Err-load_rows.ensures.asked in
-    replay_no_rows first between last config trace c.in-Ok.plan
-    (agree_first first between last (trace ∷ []) config asked later) (agree_rest first between last (trace ∷ []) config asked later) c.in-Ok.ensures.ok
-    (Rose (W.faults c.args.out.now) (W.faults c.args.out.now)) (W.took c.args.out.now) c.in-Err-load_rows.status c.in-Err-load_rows.ensures.err
+    let later = asked_one _ _ _ [] c.in-Err-load_rows.ensures.asked in
+    replay_no_rows _ _ _ _ _ c.in-Ok.plan
+    (agree_first _ _ _ (c.args.trace.now ∷ []) _ c.in-Ok.ensures.asked later) (agree_rest _ _ _ (c.args.trace.now ∷ []) _ c.in-Ok.ensures.asked later) c.in-Ok.ensures.ok
+    (Rose (g.W.Sink.faults c.args.out.now) (g.W.Sink.faults c.args.out.now)) (g.W.Sink.took c.args.out.now) c.in-Err-load_rows.status c.in-Err-load_rows.ensures.err
 
 pub returns-clause-in_order : goal.returns-clause-in_order
 returns-clause-in_order g c =
-    let S = g.S.Shelf in
-    let first = S.gave c.args.shelf.now in
-    let between = S.gave c.load_plan.new.shelf in
-    let last = S.gave c.load_rows.new.shelf in
-    let config = c.args.config.now in
-    let trace = c.args.trace.now in
-    let asked = c.in-Ok.ensures.asked in
-    let later = asked_one between last trace [] c.in-Ok-load_rows.ensures.asked in
-    asked_more first between last config (trace ∷ []) asked later
+    let later = asked_one _ _ _ [] c.in-Ok-load_rows.ensures.asked in
+    asked_more _ _ _ _ (c.args.trace.now ∷ []) c.in-Ok.ensures.asked later
 
 pub returns-clause-told : goal.returns-clause-told
 returns-clause-told g c =
@@ -80,17 +49,8 @@ returns-clause-told g c =
 
 pub returns-clause-answer : goal.returns-clause-answer
 returns-clause-answer g c =
-    let S = g.S.Shelf in
-    let W = g.W.Sink in
-    let first = S.gave c.args.shelf.now in
-    let between = S.gave c.load_plan.new.shelf in
-    let last = S.gave c.load_rows.new.shelf in
-    let config = c.args.config.now in
-    let trace = c.args.trace.now in
-    let asked = c.in-Ok.ensures.asked in
-    let later = asked_one between last trace [] c.in-Ok-load_rows.ensures.asked in
-    let rows = c.in-Ok-load_rows.ensures.ok in
-    replay_found first between last config trace c.in-Ok.plan
-    (agree_first first between last (trace ∷ []) config asked later) (agree_rest first between last (trace ∷ []) config asked later) c.in-Ok.ensures.ok
-    rows.0 c.in-Ok-load_rows.rows (Rose (W.faults c.args.out.now) (W.faults c.replay_rows.new.out)) (W.took c.args.out.now) (W.took c.replay_rows.new.out) c.replay_rows.result
-    c.in-Ok.ensures.valid rows.2 rows.1 c.replay_rows.ensures.answer
+    let later = asked_one _ _ _ [] c.in-Ok-load_rows.ensures.asked in
+    replay_found _ _ _ _ _ c.in-Ok.plan
+    (agree_first _ _ _ (c.args.trace.now ∷ []) _ c.in-Ok.ensures.asked later) (agree_rest _ _ _ (c.args.trace.now ∷ []) _ c.in-Ok.ensures.asked later) c.in-Ok.ensures.ok
+    c.in-Ok-load_rows.ensures.ok.0 c.in-Ok-load_rows.rows (Rose (g.W.Sink.faults c.args.out.now) (g.W.Sink.faults c.replay_rows.new.out)) (g.W.Sink.took c.args.out.now) (g.W.Sink.took c.replay_rows.new.out) c.replay_rows.result
+    c.in-Ok.ensures.valid c.in-Ok-load_rows.ensures.ok.2 c.in-Ok-load_rows.ensures.ok.1 c.replay_rows.ensures.answer

@@ -32,13 +32,7 @@ returns-in-TooLarge-clause-asked g c =
 
 pub returns-in-TooLarge-clause-told : goal.returns-in-TooLarge-clause-told
 returns-in-TooLarge-clause-told g c =
-    let S = g.S.Shelf in
-    let old = S.gave c.args.shelf.now in
-    let new = S.gave c.load.new.self in
-    let name = c.args.name.now in
-    let max = c.args.max in
-    let held = S.held c.args.shelf.now in
-    (λ apart. held_past old new name max held c.in-TooLarge.size c.in-TooLarge.ensures.gave c.in-TooLarge.ensures.answer.0 c.in-TooLarge.ensures.answer.1, λ same. absurd cc)
+    (λ apart. held_past _ _ _ _ _ c.in-TooLarge.size c.in-TooLarge.ensures.gave c.in-TooLarge.ensures.answer.0 c.in-TooLarge.ensures.answer.1, λ same. absurd cc)
 
 pub returns-in-TooLarge-clause-err : goal.returns-in-TooLarge-clause-err
 returns-in-TooLarge-clause-err g c =

@@ -8,174 +8,64 @@ use Rattle.tva.proofs.top.run.Goals as goal
 
 pub returns-in-Some-clause-missing : goal.returns-in-Some-clause-missing
 returns-in-Some-clause-missing g c e =
-    let S = g.S.Shelf in
-    let W = g.W.Sink in
-    let first = S.gave c.args.shelf.now in
-    let last = S.gave c.run_command.new.shelf in
-    let words = texts c.args.words.now in
-    let command = asked c.in-Some.command in
-    let rose = Rose (W.faults c.args.out.now) (W.faults c.run_command.new.out) in
-    let old = W.took c.args.out.now in
-    let new = W.took c.run_command.new.out in
-    let is = (rw c.in-Some.is at c.parse.ensures) in
-    of_words first last words command (λ x. x ≡ refuses ReadFault) is ((at_status first last command rose old new c.run_command.result ReadFault e c.run_command.ensures.answer).0)
+    of_words _ _ (texts c.args.words.now) _ (λ x. x ≡ refuses ReadFault) (rw c.in-Some.is at c.parse.ensures)
+    (at_status _ _ _ _ _ _ _ ReadFault e c.run_command.ensures.answer).0
 
 pub returns-in-Some-clause-too_large : goal.returns-in-Some-clause-too_large
 returns-in-Some-clause-too_large g c k e =
-    let S = g.S.Shelf in
-    let W = g.W.Sink in
-    let first = S.gave c.args.shelf.now in
-    let last = S.gave c.run_command.new.shelf in
-    let words = texts c.args.words.now in
-    let command = asked c.in-Some.command in
-    let rose = Rose (W.faults c.args.out.now) (W.faults c.run_command.new.out) in
-    let old = W.took c.args.out.now in
-    let new = W.took c.run_command.new.out in
-    let is = (rw c.in-Some.is at c.parse.ensures) in
-    of_words first last words command (λ x. x ≡ refuses (TooLarge k)) is ((at_status first last command rose old new c.run_command.result (TooLarge k) e c.run_command.ensures.answer).0)
+    of_words _ _ (texts c.args.words.now) _ (λ x. x ≡ refuses (TooLarge k)) (rw c.in-Some.is at c.parse.ensures)
+    (at_status _ _ _ _ _ _ _ (TooLarge k) e c.run_command.ensures.answer).0
 
 pub returns-in-Some-clause-bad_config : goal.returns-in-Some-clause-bad_config
 returns-in-Some-clause-bad_config g c fault e =
-    let S = g.S.Shelf in
-    let W = g.W.Sink in
-    let first = S.gave c.args.shelf.now in
-    let last = S.gave c.run_command.new.shelf in
-    let words = texts c.args.words.now in
-    let command = asked c.in-Some.command in
-    let rose = Rose (W.faults c.args.out.now) (W.faults c.run_command.new.out) in
-    let old = W.took c.args.out.now in
-    let new = W.took c.run_command.new.out in
-    let is = (rw c.in-Some.is at c.parse.ensures) in
-    of_words first last words command (λ x. x ≡ refuses (BadConfig fault)) is ((at_status first last command rose old new c.run_command.result (BadConfig fault) e c.run_command.ensures.answer).0)
+    of_words _ _ (texts c.args.words.now) _ (λ x. x ≡ refuses (BadConfig fault)) (rw c.in-Some.is at c.parse.ensures)
+    (at_status _ _ _ _ _ _ _ (BadConfig fault) e c.run_command.ensures.answer).0
 
 pub returns-in-Some-clause-bad_trace : goal.returns-in-Some-clause-bad_trace
 returns-in-Some-clause-bad_trace g c fault e =
-    let S = g.S.Shelf in
-    let W = g.W.Sink in
-    let first = S.gave c.args.shelf.now in
-    let last = S.gave c.run_command.new.shelf in
-    let words = texts c.args.words.now in
-    let command = asked c.in-Some.command in
-    let rose = Rose (W.faults c.args.out.now) (W.faults c.run_command.new.out) in
-    let old = W.took c.args.out.now in
-    let new = W.took c.run_command.new.out in
-    let is = (rw c.in-Some.is at c.parse.ensures) in
-    of_words first last words command (λ x. x ≡ refuses (BadTrace fault)) is ((at_status first last command rose old new c.run_command.result (BadTrace fault) e c.run_command.ensures.answer).0)
+    of_words _ _ (texts c.args.words.now) _ (λ x. x ≡ refuses (BadTrace fault)) (rw c.in-Some.is at c.parse.ensures)
+    (at_status _ _ _ _ _ _ _ (BadTrace fault) e c.run_command.ensures.answer).0
 
 pub returns-in-Some-clause-bad_report : goal.returns-in-Some-clause-bad_report
 returns-in-Some-clause-bad_report g c line e =
-    let S = g.S.Shelf in
-    let W = g.W.Sink in
-    let first = S.gave c.args.shelf.now in
-    let last = S.gave c.run_command.new.shelf in
-    let words = texts c.args.words.now in
-    let command = asked c.in-Some.command in
-    let rose = Rose (W.faults c.args.out.now) (W.faults c.run_command.new.out) in
-    let old = W.took c.args.out.now in
-    let new = W.took c.run_command.new.out in
-    let is = (rw c.in-Some.is at c.parse.ensures) in
-    of_words first last words command (λ x. x ≡ refuses (BadReport line)) is ((at_status first last command rose old new c.run_command.result (BadReport line) e c.run_command.ensures.answer).0)
+    of_words _ _ (texts c.args.words.now) _ (λ x. x ≡ refuses (BadReport line)) (rw c.in-Some.is at c.parse.ensures)
+    (at_status _ _ _ _ _ _ _ (BadReport line) e c.run_command.ensures.answer).0
 
 pub returns-in-Some-clause-found : goal.returns-in-Some-clause-found
 returns-in-Some-clause-found g c finding e =
-    let S = g.S.Shelf in
-    let W = g.W.Sink in
-    let first = S.gave c.args.shelf.now in
-    let last = S.gave c.run_command.new.shelf in
-    let words = texts c.args.words.now in
-    let command = asked c.in-Some.command in
-    let rose = Rose (W.faults c.args.out.now) (W.faults c.run_command.new.out) in
-    let old = W.took c.args.out.now in
-    let new = W.took c.run_command.new.out in
-    let is = (rw c.in-Some.is at c.parse.ensures) in
-    of_words first last words command (HasFound finding) is ((at_status first last command rose old new c.run_command.result (Differs finding) e c.run_command.ensures.answer).0)
+    of_words _ _ (texts c.args.words.now) _ (HasFound finding) (rw c.in-Some.is at c.parse.ensures)
+    (at_status _ _ _ _ _ _ _ (Differs finding) e c.run_command.ensures.answer).0
 
 pub returns-in-Some-clause-done : goal.returns-in-Some-clause-done
 returns-in-Some-clause-done g c e =
-    let S = g.S.Shelf in
-    let W = g.W.Sink in
-    let first = S.gave c.args.shelf.now in
-    let last = S.gave c.run_command.new.shelf in
-    let words = texts c.args.words.now in
-    let command = asked c.in-Some.command in
-    let rose = Rose (W.faults c.args.out.now) (W.faults c.run_command.new.out) in
-    let old = W.took c.args.out.now in
-    let new = W.took c.run_command.new.out in
-    let is = (rw c.in-Some.is at c.parse.ensures) in
-    of_words first last words command (WroteAll old new) is ((at_status first last command rose old new c.run_command.result Done e c.run_command.ensures.answer))
+    of_words _ _ (texts c.args.words.now) _ (WroteAll _ _) (rw c.in-Some.is at c.parse.ensures)
+    (at_status _ _ _ _ _ _ _ Done e c.run_command.ensures.answer)
 
 pub returns-in-Some-clause-event_limit : goal.returns-in-Some-clause-event_limit
 returns-in-Some-clause-event_limit g c most e =
-    let S = g.S.Shelf in
-    let W = g.W.Sink in
-    let first = S.gave c.args.shelf.now in
-    let last = S.gave c.run_command.new.shelf in
-    let words = texts c.args.words.now in
-    let command = asked c.in-Some.command in
-    let rose = Rose (W.faults c.args.out.now) (W.faults c.run_command.new.out) in
-    let old = W.took c.args.out.now in
-    let new = W.took c.run_command.new.out in
-    let is = (rw c.in-Some.is at c.parse.ensures) in
-    of_words first last words command (WroteLines most old new) is (λ files agree. (((at_status first last command rose old new c.run_command.result (EventLimit most) e c.run_command.ensures.answer)) files agree).0)
+    of_words _ _ (texts c.args.words.now) _ (WroteLines most _ _) (rw c.in-Some.is at c.parse.ensures)
+    (λ files agree. ((at_status _ _ _ _ _ _ _ (EventLimit most) e c.run_command.ensures.answer) files agree).0)
 
 pub returns-in-Some-clause-front : goal.returns-in-Some-clause-front
 returns-in-Some-clause-front g c =
-    let S = g.S.Shelf in
-    let W = g.W.Sink in
-    let first = S.gave c.args.shelf.now in
-    let last = S.gave c.run_command.new.shelf in
-    let words = texts c.args.words.now in
-    let command = asked c.in-Some.command in
-    let rose = Rose (W.faults c.args.out.now) (W.faults c.run_command.new.out) in
-    let old = W.took c.args.out.now in
-    let new = W.took c.run_command.new.out in
-    let is = (rw c.in-Some.is at c.parse.ensures) in
-    of_words first last words command (WrotePart old new) is (part_of_answer first last command rose old new c.run_command.result c.run_command.ensures.answer)
+    of_words _ _ (texts c.args.words.now) _ (WrotePart _ _) (rw c.in-Some.is at c.parse.ensures)
+    (part_of_answer _ _ _ _ _ _ _ c.run_command.ensures.answer)
 
 pub returns-in-Some-clause-complete : goal.returns-in-Some-clause-complete
 returns-in-Some-clause-complete g c unfailed =
-    let S = g.S.Shelf in
-    let W = g.W.Sink in
-    let first = S.gave c.args.shelf.now in
-    let last = S.gave c.run_command.new.shelf in
-    let words = texts c.args.words.now in
-    let command = asked c.in-Some.command in
-    let rose = Rose (W.faults c.args.out.now) (W.faults c.run_command.new.out) in
-    let old = W.took c.args.out.now in
-    let new = W.took c.run_command.new.out in
-    let is = (rw c.in-Some.is at c.parse.ensures) in
-    of_words first last words command (Settles c.run_command.result) is (settles_of_answer first last command rose old new c.run_command.result c.run_command.ensures.answer unfailed)
+    of_words _ _ (texts c.args.words.now) _ (Settles c.run_command.result) (rw c.in-Some.is at c.parse.ensures)
+    (settles_of_answer _ _ _ _ _ _ _ c.run_command.ensures.answer unfailed)
 
 pub returns-in-Some-clause-refused : goal.returns-in-Some-clause-refused
 returns-in-Some-clause-refused g c =
-    let S = g.S.Shelf in
-    let W = g.W.Sink in
-    let first = S.gave c.args.shelf.now in
-    let last = S.gave c.run_command.new.shelf in
-    let words = texts c.args.words.now in
-    let command = asked c.in-Some.command in
-    let rose = Rose (W.faults c.args.out.now) (W.faults c.run_command.new.out) in
-    let old = W.took c.args.out.now in
-    let new = W.took c.run_command.new.out in
-    let is = (rw c.in-Some.is at c.parse.ensures) in
-    of_words first last words command (SettlesRefusal c.run_command.result) is (refusal_of_answer first last command rose old new c.run_command.result c.run_command.ensures.answer)
+    of_words _ _ (texts c.args.words.now) _ (SettlesRefusal c.run_command.result) (rw c.in-Some.is at c.parse.ensures)
+    (refusal_of_answer _ _ _ _ _ _ _ c.run_command.ensures.answer)
 
 pub returns-in-Some-clause-read_fault : goal.returns-in-Some-clause-read_fault
 returns-in-Some-clause-read_fault g c e =
-    let S = g.S.Shelf in
-    let W = g.W.Sink in
-    let first = S.gave c.args.shelf.now in
-    let last = S.gave c.run_command.new.shelf in
-    let words = texts c.args.words.now in
-    let command = asked c.in-Some.command in
-    let rose = Rose (W.faults c.args.out.now) (W.faults c.run_command.new.out) in
-    let old = W.took c.args.out.now in
-    let new = W.took c.run_command.new.out in
     let is = (rw c.in-Some.is at c.parse.ensures) in
-    missing_held (S.held c.args.shelf.now) first last words (Rose (S.faults c.args.shelf.now) (S.faults c.run_command.new.shelf)) ReadFault
-    (λ none. let both : Some command ≡ None = is ∙ none in cc)
-    (c.run_command.ensures.told.1 e)
-    (of_words first last words command (λ x. x ≡ refuses ReadFault) is ((at_status first last command rose old new c.run_command.result ReadFault e c.run_command.ensures.answer).0))
+    missing_held _ _ _ (texts c.args.words.now) _ ReadFault (λ none. let both : Some (asked c.in-Some.command) ≡ None = is ∙ none in cc) (c.run_command.ensures.told.1 e)
+    (of_words _ _ (texts c.args.words.now) _ (λ x. x ≡ refuses ReadFault) is (at_status _ _ _ _ _ _ _ ReadFault e c.run_command.ensures.answer).0)
 
 pub returns-in-Some-clause-in_order : goal.returns-in-Some-clause-in_order
 returns-in-Some-clause-in_order g c =

@@ -1,21 +1,15 @@
-use Rattle.tva_drr.proofs.Common.{◌≡◌, ◌<◌, ℕ, Option, Some, None, arith, ap, ◌∙◌, sym, subst, length, queue, bytes_in, queues_in, IsPlace, place_in}
+use Rattle.std.proofs.Common.{rules}
+use Rattle.tva_drr.proofs.Common.{◌<◌, arith, ap, ◌∙◌, sym, length, queue, bytes_in, queues_in}
 use Rattle.tva_drr.proofs.Lists.{items_of_at, items_of_none}
 use Rattle.tva_drr.proofs.Rows.{queue_read, keys-queues, length-queues}
 use Rattle.tva_drr.proofs.Keys.{place_is}
 use Rattle.tva_drr.proofs.places.find_slot.Goals as goal
 
 pub turn-requires : goal.turn-requires
-turn-requires g c =
-    let ts = c.args.turns.now.turns in
-    let is = sym c.in-Some.is ∙ (c.place.ensures ∙ ap (place_in c.args.key) (sym (keys-queues ts))) in
-    let p : IsPlace c.args.key (queues_in ts) (Some c.in-Some.at) = subst (λ (o : Option ℕ). IsPlace c.args.key (queues_in ts) o) (sym is) (place_is c.args.key (queues_in ts)) in
-    omega (arith, p.0, length-queues ts)
+turn-requires g c = search (rules, keys-queues, place_is, length-queues, c.in-Some.is, c.place.ensures)
 
 pub returns-in-Some-clause-at : goal.returns-in-Some-clause-at
-returns-in-Some-clause-at g c =
-    let ts = c.args.turns.now.turns in
-    let is = sym c.in-Some.is ∙ (c.place.ensures ∙ ap (place_in c.args.key) (sym (keys-queues ts))) in
-    subst (λ (o : Option ℕ). IsPlace c.args.key (queues_in ts) o) (sym is) (place_is c.args.key (queues_in ts))
+returns-in-Some-clause-at g c = search (rules, keys-queues, place_is, c.in-Some.is, c.place.ensures)
 
 pub returns-in-Some-clause-items : goal.returns-in-Some-clause-items
 returns-in-Some-clause-items g c =
@@ -36,10 +30,7 @@ returns-in-Some-clause-bytes g c =
     c.bytes.ensures ∙ ap (bytes_in g.T.Measured.measure) (sym (items_of_at c.args.key (queues_in ts) c.in-Some.at (queue t.key t.deficit t.source.items) p.0 p.1 s (p.2 _ s)))
 
 pub returns-in-None-clause-at : goal.returns-in-None-clause-at
-returns-in-None-clause-at g c =
-    let ts = c.args.turns.now.turns in
-    let is : None ≡ place_in c.args.key _ = sym c.in-None.is ∙ (c.place.ensures ∙ ap (place_in c.args.key) (sym (keys-queues ts))) in
-    subst (λ (o : Option ℕ). IsPlace c.args.key (queues_in ts) o) (sym is) (place_is c.args.key (queues_in ts))
+returns-in-None-clause-at g c = search (rules, keys-queues, place_is, c.in-None.is, c.place.ensures)
 
 pub returns-in-None-clause-items : goal.returns-in-None-clause-items
 returns-in-None-clause-items g c = sym (ap length (items_of_none c.args.key (queues_in c.args.turns.now.turns) (returns-in-None-clause-at g c)))

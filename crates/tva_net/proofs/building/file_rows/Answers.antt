@@ -1,11 +1,10 @@
-use Rattle.tva_net.proofs.Common.{◌≡◌, ◌+◌, ◌∷◌, [], List, drop, get_or, ◌∙◌, ap, arith, get_or_default, Row, FromTrace, rows_at, KeepsWork, mail_at}
+use Rattle.tva_net.proofs.Common.{◌≡◌, ◌+◌, ◌∷◌, [], List, drop, get_or, ◌∙◌, ap, arith, get_or_default, Row, FromTrace, rows_at, KeepsWork, mail_at, AllZip-same}
 use Rattle.tva_net.proofs.Firsts.{row_first, row_left, some_row}
-use Rattle.tva_net.proofs.PostedLists.{zip_same}
 use Rattle.tva_net.proofs.Mails.{all_keep, going_first, going_more, keeps_same, still_delivers}
 use Rattle.tva_net.proofs.building.file_rows.Goals as goal
 
 pub loop-place-init : goal.loop-place-init
-loop-place-init c = record { going = going_first (rows_at c.args.rows.now) c.args.nodes.now; keeps = zip_same KeepsWork keeps_same c.args.nodes.now }
+loop-place-init c = record { going = going_first (rows_at c.args.rows.now) c.args.nodes.now; keeps = AllZip-same KeepsWork keeps_same c.args.nodes.now }
 
 pub file_row-requires-clause-takes : goal.file_row-requires-clause-takes
 file_row-requires-clause-takes c = λ d.

@@ -1,4 +1,4 @@
-use Rattle.tva_net.proofs.Common.{◌≡◌, List, get_or, length, sym, ◌∙◌, ap, NodePlan, links_out}
+use Rattle.tva_net.proofs.Common.{◌≡◌, get_or, length, sym, ◌∙◌, ap, links_out}
 use Rattle.tva_net.proofs.Firsts.{site_fits, site_there}
 use Rattle.tva_net.proofs.building.node_of.Goals as goal
 
@@ -7,8 +7,7 @@ build_keeping-requires-clause-site c =
     let n = c.args.number in
     let config = c.args.config.now in
     let p = c.index-plans-from.result in
-    let is : p ≡ get_or config.nodes n p =
-    c.index-plans-from.is ∙ (ap (λ (ns : List NodePlan). get_or ns c.from.result p) c.as_slice-plans.ensures ∙ ap (λ k. get_or config.nodes k p) c.from.ensures) in
+    let is : p ≡ get_or config.nodes n p = cc in
     let out : c.as_slice-2.result.now ≡ links_out n config.links = c.as_slice-2.ensures.value ∙ (c.in_ok-links.ensures ∙ ap (links_out n) c.as_slice.ensures) in
     site_fits config n p c.as_slice-2.result.now c.requires.config c.requires.node is out
 
@@ -18,8 +17,7 @@ returns-clause-first c =
     let config = c.args.config.now in
     let p = c.index-plans-from.result in
     let e = c.in_ok-node.ensures in
-    let is : p ≡ get_or config.nodes n p =
-    c.index-plans-from.is ∙ (ap (λ (ns : List NodePlan). get_or ns c.from.result p) c.as_slice-plans.ensures ∙ ap (λ k. get_or config.nodes k p) c.from.ensures) in
+    let is : p ≡ get_or config.nodes n p = cc in
     let out : c.as_slice-2.result.now ≡ links_out n config.links = c.as_slice-2.ensures.value ∙ (c.in_ok-links.ensures ∙ ap (links_out n) c.as_slice.ensures) in
     record {
       site = site_there config n p c.as_slice-2.result.now c.in_ok-node.node.site c.requires.node is out e.site;

@@ -1,13 +1,12 @@
-use Rattle.tva_net.proofs.Common.{◌∙◌, sym, arith, Keeps}
+use Rattle.tva_net.proofs.Common.{◌∙◌, sym, arith, Keeps, AllZip-long}
 use Rattle.tva_net.proofs.Worked.{all_advanced}
-use Rattle.tva_net.proofs.PostedLists.{zip_length}
 use Rattle.tva_net.proofs.pace.work_all.Goals as goal
 
 pub note_all-requires-clause-few : goal.note_all-requires-clause-few
-note_all-requires-clause-few g c = let n = zip_length Keeps c.args.nodes.now c.work_parts.new.nodes c.in_ok-work_parts.ensures.kept in omega (arith, n, c.requires.few)
+note_all-requires-clause-few g c = let n = AllZip-long Keeps c.args.nodes.now c.work_parts.new.nodes c.in_ok-work_parts.ensures.kept in omega (arith, n, c.requires.few)
 
 pub note_all-requires-clause-count : goal.note_all-requires-clause-count
-note_all-requires-clause-count g c = c.requires.noted.count ∙ sym (zip_length Keeps c.args.nodes.now c.work_parts.new.nodes c.in_ok-work_parts.ensures.kept)
+note_all-requires-clause-count g c = c.requires.noted.count ∙ sym (AllZip-long Keeps c.args.nodes.now c.work_parts.new.nodes c.in_ok-work_parts.ensures.kept)
 
 pub returns-clause-through : goal.returns-clause-through
 returns-clause-through g c =

@@ -1,35 +1,18 @@
-use Rattle.tva_net.proofs.Common.{◌∷◌, [], get_or, subst, get_or_default, arrival, NodeState, GotMail, KeepsWork}
-use Rattle.tva_net.proofs.Mails.{got_at, keeps_same, kept_by, same_but, zip_set}
+use Rattle.tva_net.proofs.Common.{◌∷◌, [], arrival}
+use Rattle.tva_net.proofs.Mails.{got_at, kept_by, same_but, post_keeps}
 use Rattle.tva_net.proofs.posting.deliver_flight.Goals as goal
 
 pub returns-in_err-post_flight-clause-keeps : goal.returns-in_err-post_flight-clause-keeps
-returns-in_err-post_flight-clause-keeps c =
-    let xs = c.args.nodes.now in
-    let to = c.args.to in
-    let w = c.post_flight.new.self in
-    let kept : KeepsWork (get_or xs to c.index-nodes-to.result) w = kept_by (get_or xs to c.index-nodes-to.result) w c.in_err-post_flight.ensures.same in
-    zip_set KeepsWork keeps_same xs to w
-    (subst (λ (v : NodeState). KeepsWork v w) (get_or_default xs to c.index-nodes-to.result w c.requires.node) kept)
+returns-in_err-post_flight-clause-keeps c = post_keeps c.args.nodes.now c.args.to c.index-nodes-to.result c.post_flight.new.self c.requires.node c.in_err-post_flight.ensures.same
 
 pub returns-clause-got : goal.returns-clause-got
 returns-clause-got c =
-    let xs = c.args.nodes.now in
-    let to = c.args.to in
-    let w = c.post_flight.new.self in
     let e = c.in_ok-post_flight.ensures in
-    let got : GotMail (arrival c.args.flight ∷ []) (get_or xs to c.index-nodes-to.result) w =
-    record { inbox = e.inbox; stands = e.stands; keeps = kept_by (get_or xs to c.index-nodes-to.result) w e.same } in
-    got_at to (arrival c.args.flight ∷ []) xs w c.requires.node
-    (subst (λ (v : NodeState). GotMail (arrival c.args.flight ∷ []) v w) (get_or_default xs to c.index-nodes-to.result w c.requires.node) got)
+    got_at c.args.to (arrival c.args.flight ∷ []) c.args.nodes.now c.index-nodes-to.result c.post_flight.new.self c.requires.node
+    (record { inbox = e.inbox; stands = e.stands; keeps = kept_by _ _ e.same })
 
 pub returns-clause-keeps : goal.returns-clause-keeps
-returns-clause-keeps c =
-    let xs = c.args.nodes.now in
-    let to = c.args.to in
-    let w = c.post_flight.new.self in
-    let kept : KeepsWork (get_or xs to c.index-nodes-to.result) w = kept_by (get_or xs to c.index-nodes-to.result) w c.in_ok-post_flight.ensures.same in
-    zip_set KeepsWork keeps_same xs to w
-    (subst (λ (v : NodeState). KeepsWork v w) (get_or_default xs to c.index-nodes-to.result w c.requires.node) kept)
+returns-clause-keeps c = post_keeps c.args.nodes.now c.args.to c.index-nodes-to.result c.post_flight.new.self c.requires.node c.in_ok-post_flight.ensures.same
 
 pub returns-in_err-post_flight-clause-others : goal.returns-in_err-post_flight-clause-others
 returns-in_err-post_flight-clause-others c = same_but c.args.to c.args.nodes.now c.post_flight.new.self

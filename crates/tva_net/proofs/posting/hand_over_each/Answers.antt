@@ -1,7 +1,6 @@
-use Rattle.tva_net.proofs.Common.{ℕ, ◌+◌, ◌<◌, List, ◌∷◌, ◌++◌, drop, get_or, length, set, sym, subst, ◌∙◌, ap, arith, drop_all, drop_more, get_or_default, All-from_recursion, Sending, unsent, picked, HandedOn, IsElsewhere}
+use Rattle.tva_net.proofs.Common.{ℕ, ◌+◌, ◌<◌, List, ◌∷◌, ◌++◌, drop, get_or, length, set, sym, subst, ◌∙◌, ap, arith, drop_all, drop_more, get_or_default, All-from_recursion, Sending, unsent, picked, HandedOn, IsElsewhere, AllZip-same, AllZip-long}
 use Rattle.std.proofs.Common.{append-nil}
 use Rattle.tva_net.proofs.Forgotten.{AreHanding, all_handed, handed_same, handed_set, handing_first, handing_more, over_on, over_told}
-use Rattle.tva_net.proofs.PostedLists.{zip_length, zip_same}
 use Rattle.tva_net.proofs.NodePlaces.{picked_last, picked_step}
 use Rattle.tva_net.proofs.posting.hand_over_each.Goals as goal
 
@@ -9,12 +8,12 @@ pub loop-place-init : goal.loop-place-init
 loop-place-init c = record {
   sent = ap (λ (ss : List Sending). ss ++ picked unsent c.args.nodes.now c.args.places.now) c.requires.empty;
   handing = handing_first c.args.places.now c.args.nodes.now c.requires.placed.rises c.requires.others;
-  handed = zip_same HandedOn handed_same c.args.nodes.now;
+  handed = AllZip-same HandedOn handed_same c.args.nodes.now;
 }
 
 pub bounds-nodes-place : goal.bounds-nodes-place
 bounds-nodes-place c =
-    let n = zip_length HandedOn c.args.nodes.now c.loop-place.nodes c.loop-place.invariant.handed in
+    let n = AllZip-long HandedOn c.args.nodes.now c.loop-place.nodes c.loop-place.invariant.handed in
     let inside = All-from_recursion (λ place. place < length c.args.nodes.now) c.args.places.now c.requires.placed.within c.loop-place.place-index 0 c.loop-place-test.true in
     omega (arith, n, inside)
 
@@ -23,7 +22,7 @@ returns-in_err-hand_over-clause-handed c =
     let place = get_or c.args.places.now c.loop-place.place-index 0 in
     let now = c.loop-place.nodes in
     let u = c.index-nodes-place.result in
-    let n = zip_length HandedOn c.args.nodes.now now c.loop-place.invariant.handed in
+    let n = AllZip-long HandedOn c.args.nodes.now now c.loop-place.invariant.handed in
     let inside = All-from_recursion (λ place. place < length c.args.nodes.now) c.args.places.now c.requires.placed.within c.loop-place.place-index 0 c.loop-place-test.true in
     let here : place < length now = omega (arith, n, inside) in
     all_handed c.args.nodes.now now _ c.loop-place.invariant.handed
@@ -39,7 +38,7 @@ loop-place-preserved c =
     let u = c.index-nodes-place.result in
     let v = get_or now place u in
     let w = c.hand_over.new.self in
-    let n = zip_length HandedOn nodes now c.loop-place.invariant.handed in
+    let n = AllZip-long HandedOn nodes now c.loop-place.invariant.handed in
     let inside = All-from_recursion (λ place. place < length nodes) places c.requires.placed.within i 0 c.loop-place-test.true in
     let here : place < length now = omega (arith, n, inside) in
     let next : AreHanding (place ∷ drop (i + 1) places) nodes now = subst (λ (ps : List ℕ). AreHanding ps nodes now) (drop_more places i 0 c.loop-place-test.true) c.loop-place.invariant.handing in

@@ -1,8 +1,7 @@
-use Rattle.tva_net.proofs.Common.{◌≡◌, List, [], All, sym, subst, ◌∙◌, arith, flat_map, Sending, unsent, GotMails, HandedOn, HavePosted, IsPostable, mail_to, AreNoted}
+use Rattle.tva_net.proofs.Common.{◌≡◌, List, [], All, sym, subst, ◌∙◌, arith, flat_map, Sending, unsent, GotMails, HandedOn, HavePosted, IsPostable, mail_to, AreNoted, AllZip-long}
 use Rattle.tva_node.proofs.Decides.{on_both}
 use Rattle.tva_net.proofs.Forgotten.{got_handed, handed_keeps, handed_then_got, noted_handed}
 use Rattle.tva_net.proofs.Handed.{unsent_whole}
-use Rattle.tva_net.proofs.PostedLists.{zip_length}
 use Rattle.tva_net.proofs.Mails.{all_keep, all_quiet, postables_still}
 use Rattle.tva_net.proofs.posting.post_all.Goals as goal
 
@@ -11,7 +10,7 @@ returns-in_err-hand_over_each-clause-keeps c = handed_keeps c.args.nodes.now c.h
 
 pub post_sent-requires-clause-few : goal.post_sent-requires-clause-few
 post_sent-requires-clause-few c =
-    let count = zip_length HandedOn c.args.nodes.now c.hand_over_each.new.nodes c.in_ok-hand_over_each.ensures.handed in
+    let count = AllZip-long HandedOn c.args.nodes.now c.hand_over_each.new.nodes c.in_ok-hand_over_each.ensures.handed in
     omega (arith, count, c.requires.few)
 
 pub post_sent-requires-clause-postable : goal.post_sent-requires-clause-postable

@@ -1,5 +1,4 @@
-use Rattle.tva_net.proofs.Common.{◌≤◌, ◌<◌, ◌∙◌, subst, arith, Time, KeepsWork}
-use Rattle.tva_net.proofs.PostedLists.{zip_same}
+use Rattle.tva_net.proofs.Common.{◌≤◌, ◌<◌, ◌∙◌, subst, arith, Time, KeepsWork, AllZip-same}
 use Rattle.tva_net.proofs.Mails.{delivers_one, keeps_same, posted_late, posted_one}
 use Rattle.tva_net.proofs.Noted.{noted_after}
 use Rattle.tva_net.proofs.posting.post_one.Goals as goal
@@ -8,7 +7,7 @@ pub returns-then-arrive-horizon-clause-got : goal.returns-then-arrive-horizon-cl
 returns-then-arrive-horizon-clause-got c = posted_late c.args.horizon.0 c.args.links.now c.args.sending c.args.nodes.now (subst (λ (t : Time). c.args.horizon.0 < t.0) c.arrive.ensures c.if-arrive-horizon.true)
 
 pub returns-then-arrive-horizon-clause-keeps : goal.returns-then-arrive-horizon-clause-keeps
-returns-then-arrive-horizon-clause-keeps c = zip_same KeepsWork keeps_same c.args.nodes.now
+returns-then-arrive-horizon-clause-keeps c = AllZip-same KeepsWork keeps_same c.args.nodes.now
 
 pub bounds-links-from : goal.bounds-links-from
 bounds-links-from c = let k = c.requires.postable.link in let e = c.link.ensures in omega (arith, k, e, c.from.ensures)

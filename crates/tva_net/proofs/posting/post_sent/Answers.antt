@@ -1,5 +1,4 @@
-use Rattle.tva_net.proofs.Common.{rules, ◌≡◌, ◌∷◌, List, All, sym, subst, ◌∙◌, ap, arith, drain_items, take_all, All-head, All-tail, Sending, IsPostable, KeepsWork, mail_to}
-use Rattle.tva_net.proofs.PostedLists.{zip_same}
+use Rattle.tva_net.proofs.Common.{rules, ◌≡◌, ◌∷◌, List, All, sym, subst, ◌∙◌, ap, arith, drain_items, take_all, All-head, All-tail, Sending, IsPostable, KeepsWork, mail_to, AllZip-same}
 use Rattle.tva_net.proofs.Mails.{IsGoing, all_keep, going_first, going_one, keeps_same, still_postable}
 use Rattle.tva_net.proofs.posting.post_sent.Goals as goal
 
@@ -14,7 +13,7 @@ loop-sending-init c =
           (going_first (mail_to c.args.horizon.0 c.args.links.now c.args.sent.now.items) nodes);
       left = subst (All (IsPostable c.args.horizon.0 c.args.links.now nodes)) (sym e) c.requires.postable;
       noted = c.requires.noted;
-      keeps = zip_same KeepsWork keeps_same nodes;
+      keeps = AllZip-same KeepsWork keeps_same nodes;
     }
 
 pub post_one-requires-clause-few : goal.post_one-requires-clause-few

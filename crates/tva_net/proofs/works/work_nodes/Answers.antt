@@ -1,7 +1,6 @@
-use Rattle.tva_net.proofs.Common.{ℕ, [], List, All, length, subst, sym, arith, flat_map, Sending, unsent, GotMails, HandedOut, IsPostable, mail_to, ArePlaces, AreQuietElsewhere}
+use Rattle.tva_net.proofs.Common.{ℕ, [], List, All, length, subst, sym, arith, flat_map, Sending, unsent, GotMails, HandedOut, IsPostable, mail_to, ArePlaces, AreQuietElsewhere, AllZip-long, AllZip, Keeps, KeepsWork, GrowsFrom, NodeState}
 use Rattle.tva_net.proofs.Forgotten.{got_handed, handed_keeps, handed_then_got, noted_handed}
 use Rattle.tva_net.proofs.Handed.{all_handed_on, handed_elsewhere, handed_unsent}
-use Rattle.tva_net.proofs.PostedLists.{zip_length}
 use Rattle.tva_net.proofs.Mails.{postables_still}
 use Rattle.tva_net.proofs.Ends.{all_stand, few, mids_few, mids_numbered, mids_stand, postable, quiet_elsewhere, reach, told_kept, told_more, told_posted}
 use Rattle.tva_net.proofs.works.work_nodes.Goals as goal
@@ -37,7 +36,7 @@ post_beside-result-requires-clause-posting g c κs within =
     let e = c.in-Ok.ensures in
     let handed = c.in-Ok-gather.ensures.handed in
     let on = all_handed_on mids vs handed in
-    let count = zip_length HandedOut mids vs handed in
+    let count = AllZip-long HandedOut mids vs handed in
     let most = mids_few _ c.args.until.0 c.requires.works.2 mids e.through.each e.kept in
     record {
       few = omega (arith, most, count);
@@ -53,27 +52,20 @@ post_beside-result-requires-clause-posting g c κs within =
 pub returns-in-Err-clause-kept : goal.returns-in-Err-clause-kept
 returns-in-Err-clause-kept g c = told_kept c.args.nodes.now c.advance.new.nodes c.in-Err.ensures.kept
 
+gathered_kept : (olds mids vs : List NodeState) → AllZip Keeps olds mids → AllZip HandedOut mids vs → AllZip GrowsFrom olds vs
+gathered_kept olds mids vs k h = told_more olds mids vs (told_kept olds mids k) (told_posted mids vs (handed_keeps mids vs (all_handed_on mids vs h)))
+
 pub returns-in-Err-gather-clause-kept : goal.returns-in-Err-gather-clause-kept
-returns-in-Err-gather-clause-kept g c =
-    told_more c.args.nodes.now c.advance.new.nodes c.gather.new.nodes
-    (told_kept c.args.nodes.now c.advance.new.nodes c.in-Ok.ensures.kept)
-    (told_posted c.advance.new.nodes c.gather.new.nodes (handed_keeps c.advance.new.nodes c.gather.new.nodes (all_handed_on c.advance.new.nodes c.gather.new.nodes c.in-Err-gather.ensures.handed)))
+returns-in-Err-gather-clause-kept g c = gathered_kept c.args.nodes.now c.advance.new.nodes c.gather.new.nodes c.in-Ok.ensures.kept c.in-Err-gather.ensures.handed
+
+posted_kept : (olds mids vs news : List NodeState) → AllZip Keeps olds mids → AllZip HandedOut mids vs → AllZip KeepsWork vs news → AllZip GrowsFrom olds news
+posted_kept olds mids vs news k h p = told_more olds vs news (gathered_kept olds mids vs k h) (told_posted vs news p)
 
 pub returns-clause-kept : goal.returns-clause-kept
-returns-clause-kept g c =
-    told_more c.args.nodes.now c.advance.new.nodes c.post_beside-result.new.nodes
-    (told_kept c.args.nodes.now c.advance.new.nodes c.in-Ok.ensures.kept)
-    (told_more c.advance.new.nodes c.gather.new.nodes c.post_beside-result.new.nodes
-    (told_posted c.advance.new.nodes c.gather.new.nodes (handed_keeps c.advance.new.nodes c.gather.new.nodes (all_handed_on c.advance.new.nodes c.gather.new.nodes c.in-Ok-gather.ensures.handed)))
-    (told_posted c.gather.new.nodes c.post_beside-result.new.nodes c.post_beside-result.ensures.keeps))
+returns-clause-kept g c = posted_kept c.args.nodes.now c.advance.new.nodes c.gather.new.nodes c.post_beside-result.new.nodes c.in-Ok.ensures.kept c.in-Ok-gather.ensures.handed c.post_beside-result.ensures.keeps
 
 pub returns-in-Ok-result-clause-kept : goal.returns-in-Ok-result-clause-kept
-returns-in-Ok-result-clause-kept g c =
-    told_more c.args.nodes.now c.advance.new.nodes c.post_beside-result.new.nodes
-    (told_kept c.args.nodes.now c.advance.new.nodes c.in-Ok.ensures.kept)
-    (told_more c.advance.new.nodes c.gather.new.nodes c.post_beside-result.new.nodes
-    (told_posted c.advance.new.nodes c.gather.new.nodes (handed_keeps c.advance.new.nodes c.gather.new.nodes (all_handed_on c.advance.new.nodes c.gather.new.nodes c.in-Ok-gather.ensures.handed)))
-    (told_posted c.gather.new.nodes c.post_beside-result.new.nodes c.post_beside-result.ensures.keeps))
+returns-in-Ok-result-clause-kept g c = posted_kept c.args.nodes.now c.advance.new.nodes c.gather.new.nodes c.post_beside-result.new.nodes c.in-Ok.ensures.kept c.in-Ok-gather.ensures.handed c.post_beside-result.ensures.keeps
 
 pub returns-in-Ok-result-clause-worked : goal.returns-in-Ok-result-clause-worked
 returns-in-Ok-result-clause-worked g c =

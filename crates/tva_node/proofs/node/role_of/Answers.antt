@@ -24,8 +24,7 @@ returns-in_ok-build-in-Host-2-clause-stands c =
 pub returns-in_ok-of-in-Router-clause-last : goal.returns-in_ok-of-in-Router-clause-last
 returns-in_ok-of-in-Router-clause-last c =
     let planned = subst (λ (p : NodePlan). IsPlanned p c.args.links.now) c.in-Router.is c.requires.planned in
-    let moves = c.in_ok-of-in-Router.field-0 in
     let built = c.in_ok-build-in-Router.ensures in
     let of = c.in_ok-of-in-Router.ensures in
-    let by = subst (λ (xs : List (Time × Prefix × ℕ)). AreByTime xs moves.moves.items) c.as_slice.ensures of.moves in
-    routed_first c.in_ok-build-in-Router.field-0 c.in-Router.router moves planned.0 built.built built.plan built.last of.first.0 of.first.1 by
+    let by = subst (λ (xs : List (Time × Prefix × ℕ)). AreByTime xs c.in_ok-of-in-Router.field-0.moves.items) c.as_slice.ensures of.moves in
+    routed_first c.in_ok-build-in-Router.field-0 c.in-Router.router c.in_ok-of-in-Router.field-0 planned.0 built.built built.plan built.last of.first.0 of.first.1 by

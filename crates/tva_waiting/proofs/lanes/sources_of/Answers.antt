@@ -1,25 +1,14 @@
-use Rattle.tva_waiting.proofs.Common.{rules, ◌≡◌, ◌<◌, ◌≤◌, ◌+◌, ◌++◌, ◌∷◌, [], ℕ, List, zero, suc, length, map, take, get_or, sym, ◌∙◌, ap, ap₂, arith, take-suc, take-length, get_or-map, length-map, place_in, ring, Lane}
+use Rattle.tva_waiting.proofs.Common.{nat_tests, rules, ◌≡◌, ◌<◌, ◌+◌, ◌++◌, ◌∷◌, [], ℕ, List, suc, length, map, take, get_or, sym, ◌∙◌, ap, ap₂, arith, take-suc, take-length, get_or-map, length-map, place_in, ring, Lane, length-take}
 use Rattle.tva_waiting.proofs.Held.{source_new}
 use Rattle.tva_waiting.proofs.lanes.sources_of.Goals as goal
 
-few : (n : ℕ) (ns : List ℕ) → length (take n ns) ≤ n
-few zero ns = omega arith
-few (suc n) [] = omega arith
-few (suc n) (m ∷ ns) = omega (arith, few n ns)
-
 pub push-requires-in-loop-place-clause-new : goal.push-requires-in-loop-place-clause-new
 push-requires-in-loop-place-clause-new c =
-    let lanes = c.args.list.now.items in
-    let key : c.from.result + 1 ≡ (get_or lanes c.loop-place.place c.index.result.now).link + 1 = ap (λ n. n + 1) (c.from.ensures ∙ ap (λ (l : Lane). l.link) c.index.ensures) in
-    ap₂ place_in key (ap (λ r. r.keys) c.loop-place.invariant) ∙ source_new lanes c.loop-place.place c.index.result.now c.requires.apart (search rules)
+    let key : c.from.result + 1 ≡ (get_or c.args.list.now.items c.loop-place.place c.index.result.now).link + 1 = ap (λ n. n + 1) (c.from.ensures ∙ ap (λ (l : Lane). l.link) c.index.ensures) in
+    ap₂ place_in key (ap (λ r. r.keys) c.loop-place.invariant) ∙ source_new c.args.list.now.items c.loop-place.place c.index.result.now c.requires.apart (search rules)
 
 pub push-requires-in-loop-place-clause-room : goal.push-requires-in-loop-place-clause-room
-push-requires-in-loop-place-clause-room c =
-    let links = map (λ (lane : Lane). lane.link + 1) c.args.list.now.items in
-    let keys : length c.loop-place.sources.keys ≡ length (0 ∷ take c.loop-place.place links) = ap (λ r. length r.keys) c.loop-place.invariant in
-    let places : c.loop-place.sources.places ≡ c.args.places = ap (λ r. r.places) c.loop-place.invariant in
-    let within : c.loop-place.place < length c.args.list.now.items = search rules in
-    omega (arith, few c.loop-place.place links, keys, places, within, c.requires.room)
+push-requires-in-loop-place-clause-room c = grind (arith, nat_tests, length-take)
 
 pub loop-place-preserved : goal.loop-place-preserved
 loop-place-preserved c =

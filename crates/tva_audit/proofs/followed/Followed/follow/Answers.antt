@@ -1,4 +1,4 @@
-use Rattle.tva_audit.proofs.Common.{◌≡◌, Bool, cond, [], List, ◌++◌, length, is_some, refl, sym, ap, ◌∙◌, subst, length-map, with_items_is, Event, text_of_event, Tally, left, AreTallied}
+use Rattle.tva_audit.proofs.Common.{Bool, cond, [], List, ◌++◌, length, is_some, refl, sym, ap, ◌∙◌, subst, length-map, with_items_is, Event, text_of_event, Tally, left, AreTallied}
 use Rattle.tva_audit.proofs.Texts.{IsText, compares_more, lines_fit, ok_more, texts_of}
 use Rattle.tva_audit.proofs.followed.Followed.follow.Goals as goal
 use Rattle.tva_audit.proofs.followed.Followed.follow.Goals.{In_ok-put}

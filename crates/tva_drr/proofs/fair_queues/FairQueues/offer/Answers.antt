@@ -1,4 +1,5 @@
-use Rattle.tva_drr.proofs.Common.{◌≡◌, ◌+◌, ◌≤◌, true, false, sym, ◌∙◌, ap, arith, subst, Queued, QueueFull, Fair, fair, has_key, all_bytes, put, lacks_queue, lacks_room, offer_answer, offer_leaves, IsFair, GoesLast, IsPlace, queues_in}
+use Rattle.std.proofs.Common.{rules}
+use Rattle.tva_drr.proofs.Common.{◌≡◌, ◌+◌, ◌≤◌, true, false, sym, ◌∙◌, ap, subst, Queued, QueueFull, Fair, fair, all_bytes, put, lacks_queue, lacks_room, offer_answer, offer_leaves, IsFair, GoesLast, queues_in}
 use Rattle.tva_drr.proofs.OrderLaws.{goes_last}
 use Rattle.tva_drr.proofs.Lists.{room_lacked, answer_full, answer_queued, leaves_queued, room_for}
 use Rattle.tva_drr.proofs.Keeps.{items-within, keeps-offer}
@@ -6,13 +7,7 @@ use Rattle.tva_drr.proofs.Rows.{length-queues, queue_lacked}
 use Rattle.tva_drr.proofs.fair_queues.FairQueues.offer.Goals as goal
 
 pub lacks_room-requires : goal.lacks_room-requires
-lacks_room-requires g c =
-    let i = c.self.inside.turns in
-    let w = items-within g.T.Measured.measure i.limits c.args.key (queues_in i.turns) c.self.invariant.0.queues.each in
-    let v = c.self.invariant.0.limits in
-    let most : g.T.Measured.measure c.args.item ≤ i.limits.max = subst (λ (f : Fair g.row.T.Denot). g.T.Measured.measure c.args.item ≤ f.limits.max) (sym c.self.view_is) c.requires.length.1 in
-    let p = c.find_slot-place.ensures in
-    (omega (arith, w.0, v.ring, p.items), omega (arith, w.1, v.queue_bytes, p.bytes), omega (arith, c.self.invariant.0.queues.bytes, v.class_bytes, c.self.invariant.1), omega (arith, most, v.quantum, c.length-length.ensures))
+lacks_room-requires g c = search (rules, items-within, c.self.invariant.0.queues.each, c.self.invariant.0.limits, c.requires.length.1, c.find_slot-place.ensures, c.self.invariant.0.queues.bytes, c.self.invariant.1, c.length-length.ensures)
 
 pub returns-then-lacks_room-clause-answer : goal.returns-then-lacks_room-clause-answer
 returns-then-lacks_room-clause-answer g c =
@@ -25,14 +20,7 @@ returns-then-lacks_room-clause-answer g c =
     subst (λ (v : Fair g.row.T.Denot). QueueFull c.args.item ≡ offer_answer m v c.args.key c.args.item) c.self.view_is (answer_full m (fair i.limits qs) c.args.key c.args.item queue full)
 
 pub put_item-requires-clause-free : goal.put_item-requires-clause-free
-put_item-requires-clause-free g c = λ none.
-    let i = c.self.inside.turns in
-    let m = g.T.Measured.measure in
-    let qs = queues_in i.turns in
-    let p = c.find_slot-place in
-    let queue : lacks_queue (fair i.limits qs) c.args.key ≡ false = queue_lacked i.limits c.args.key i.turns p.result.at false p.ensures.at (sym c.if-lacks_slot.false ∙ c.lacks_slot.ensures) in
-    let absent : has_key c.args.key qs ≡ false = subst (λ o. IsPlace c.args.key qs o) none p.ensures.at in
-    omega (arith, room_for i.limits c.args.key qs queue absent, length-queues i.turns, c.self.invariant.2)
+put_item-requires-clause-free g c = search (rules, queue_lacked, room_for, length-queues, c.if-lacks_slot.false, c.lacks_slot.ensures, c.self.invariant.2)
 
 pub invariant_of-self : goal.invariant_of-self
 invariant_of-self g c =

@@ -1,13 +1,11 @@
-use Rattle.tva_drr.proofs.Common.{◌≡◌, false, sym, ap, ◌∙◌, subst, place_in, Hier, has_group, groups_in, added}
+use Rattle.std.proofs.Common.{rules}
+use Rattle.tva_drr.proofs.Common.{ap, ◌∙◌, added}
 use Rattle.tva_drr.proofs.GroupTurns.{keys-groups, no_place}
 use Rattle.tva_drr.proofs.Offering.{new_left}
 use Rattle.tva_drr.proofs.hier_queues.HierQueues.offer_new.Goals as goal
 
 pub put_new-answer-requires-clause-new : goal.put_new-answer-requires-clause-new
-put_new-answer-requires-clause-new g c =
-    let ts = c.self.inside.turns.turns in
-    let none = subst (λ (z : Hier g.row.T.Denot). has_group c.args.outer z.groups ≡ false) (sym c.self.view_is) c.requires.group in
-    ap (place_in c.args.outer) (sym (keys-groups ts)) ∙ no_place c.args.outer (groups_in ts) none
+put_new-answer-requires-clause-new g c = search (rules, keys-groups, no_place, c.requires.group)
 
 pub returns : goal.returns
 returns g c =

@@ -1,5 +1,4 @@
-use Rattle.tva_net.proofs.Common.{rules, ◌≡◌, ◌<◌, List, [], length, arith, Event, work_of}
-use Rattle.tva_net.proofs.Lists.{nothing_in}
+use Rattle.tva_net.proofs.Common.{rules, ◌≡◌, ◌<◌, List, [], length, arith, Event, work_of, nil_from_length}
 use Rattle.tva_net.proofs.Ends.{can_still, passes_none, passes_one, passes_to_none, passes_to_some, told_more, told_same}
 use Rattle.tva_net.proofs.works.Works.later_events.Goals as goal
 
@@ -27,7 +26,7 @@ pub loop-events-preserved : goal.loop-events-preserved
 loop-events-preserved g c =
     let list : List Event = c.in-Some.events.items in
     let zero : length list ≡ 0 = grind (arith, rules, c.is_empty.ensures, c.if-not-is_empty.false) in
-    let empty : list ≡ [] = nothing_in list zero in
+    let empty : list ≡ [] = nil_from_length list zero in
     let on = rw c.in-Some.is at c.in_ok-events.ensures.works in
     record {
       noted = c.in_ok-events.ensures.noted;

@@ -1,5 +1,4 @@
-use Rattle.tva_net.proofs.Common.{rules, ◌≡◌, ◌<◌, List, length, arith, Event, work_of}
-use Rattle.tva_net.proofs.Lists.{nothing_in}
+use Rattle.tva_net.proofs.Common.{rules, ◌≡◌, ◌<◌, List, length, arith, Event, work_of, nil_from_length}
 use Rattle.tva_net.proofs.Ends.{can_still, first_then, passes_none, passes_one, passes_to_none, passes_to_some, told_more}
 use Rattle.tva_net.proofs.works.Works.next_events.Goals as goal
 
@@ -14,7 +13,7 @@ returns-then-is_empty-clause-works g c =
     let list : List Event = c.in-Ok-Some.events.items in
     let zero : length list ≡ 0 = grind (arith, rules, c.is_empty.ensures, c.if-is_empty.true) in
     first_then w (work_of c.work_next-first.new.self) (work_of c.later_events.new.self) c.later_events.result
-    (passes_one w w (work_of c.work_next-first.new.self) list (nothing_in list zero) (passes_none w) (rw c.in-Ok-Some.field-0-is at (rw c.in-Ok-Some.is at c.work_next-first.ensures.works)))
+    (passes_one w w (work_of c.work_next-first.new.self) list (nil_from_length list zero) (passes_none w) (rw c.in-Ok-Some.field-0-is at (rw c.in-Ok-Some.is at c.work_next-first.ensures.works)))
     c.later_events.ensures.works
 
 pub returns-then-is_empty-clause-kept : goal.returns-then-is_empty-clause-kept

@@ -1,11 +1,9 @@
-use Rattle.tva_node.proofs.Common.{[], map, sym, subst, ◌∙◌, ap, NodePlan, IsSite, site_of, link_pair, RoleStands, Stands, role_plan}
+use Rattle.tva_node.proofs.Common.{arith, nat_tests, [], map, sym, subst, NodePlan, IsSite, site_of, link_pair, RoleStands, Stands, role_plan}
 use Rattle.tva_node.proofs.Posts.{built, pairs_first}
 use Rattle.tva_node.proofs.node.Node.build_keeping.Goals as goal
 
 pub returns-clause-site : goal.returns-clause-site
-returns-clause-site c =
-    let links = ap (map link_pair) c.in_ok-of.ensures ∙ pairs_first c.args.links.now in
-    λ i. record { number = c.args.number; plan = c.in_ok-role.ensures.plan i; links = links i }
+returns-clause-site c = grind (arith, nat_tests, pairs_first)
 
 pub returns-clause-stands : goal.returns-clause-stands
 returns-clause-stands c =

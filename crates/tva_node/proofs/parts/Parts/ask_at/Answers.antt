@@ -1,16 +1,16 @@
 use Rattle.tva_node.proofs.Common.{◌≡◌, ◌+◌, ◌∷◌, [], ◌++◌, Option, Some, None, get_or, refl, subst, ◌∙◌, ap, arith, PacketData, WaitUntil, Idle, decision_by, NodeState, gone_in, role_plan, site_at, state_of, Decides, DecidesAt, end_on, start_event, start_sending}
 use Rattle.tva_port.specs.declared.hand.Next.TheVariants.{Start}
-use Rattle.tva_node.proofs.Decides.{by_packet, from_fields, keeps_put, on_both, read_busy, read_fits, read_out, read_rest, read_start}
+use Rattle.tva_node.proofs.Decides.{from_fields, keeps_put, on_both, read_busy, read_fits, read_out, read_rest, read_start}
 use Rattle.tva_node.proofs.Works.{pairs_put}
 use Rattle.tva_node.proofs.parts.Parts.ask_at.Goals as goal
+use Rattle.tva_port.proofs.Hands.{by_packet}
 
 pub free_at-free-requires : goal.free_at-free-requires
 free_at-free-requires c =
-    let p = c.args.self.now in
     let st = c.requires.stands.3 in
     record {
       time = (c.args.now, st.past);
-      out = (site_at p, c.at-number.result.plan.limits, st.site, st.plan, read_out p c.args.now c.args.place c.at-number.result c.at-number.ensures c.requires.within c.requires.stands);
+      out = (site_at c.args.self.now, c.at-number.result.plan.limits, st.site, st.plan, read_out c.args.self.now c.args.now c.args.place c.at-number.result c.at-number.ensures c.requires.within c.requires.stands);
     }
 
 pub returns-then-free-now-clause-stands : goal.returns-then-free-now-clause-stands
@@ -28,9 +28,8 @@ returns-then-free-now-clause-keeps c =
 
 pub decide-requires-clause-out : goal.decide-requires-clause-out
 decide-requires-clause-out c =
-    let p = c.args.self.now in
     let st = c.requires.stands.3 in
-    (site_at p, c.at-number.result.plan.limits, st.site, st.plan, read_out p c.args.now c.args.place c.at-number.result c.at-number.ensures c.requires.within c.requires.stands)
+    (site_at c.args.self.now, c.at-number.result.plan.limits, st.site, st.plan, read_out c.args.self.now c.args.now c.args.place c.at-number.result c.at-number.ensures c.requires.within c.requires.stands)
 
 pub note_start-requires-clause-fits : goal.note_start-requires-clause-fits
 note_start-requires-clause-fits c = λ x.
@@ -60,7 +59,6 @@ returns-in-Start-clause-stands c = by_packet c.decide.new.hand c.in-Start.ensure
 
 pub returns-in-Start-clause-keeps : goal.returns-in-Start-clause-keeps
 returns-in-Start-clause-keeps c = by_packet c.decide.new.hand c.in-Start.ensures.held (λ packet hand.
-    let p = c.args.self.now in
     let a = c.at-number.result in
     let q = c.note_start.new.self in
     let same = c.note_start.ensures.same in
@@ -69,7 +67,7 @@ returns-in-Start-clause-keeps c = by_packet c.decide.new.hand c.in-Start.ensures
       site = λ i. record {
         number = same.3 i;
         plan = (ap role_plan same.0 ∙ c.in-Start.ensures.plan) i;
-        links = pairs_put p.links q.links c.args.place a (Some (end_on (get_or p.links c.args.place a) c.args.now packet)) c.requires.within (c.note_start.ensures.links a packet hand) i;
+        links = pairs_put c.args.self.now.links q.links c.args.place a (Some (end_on (get_or c.args.self.now.links c.args.place a) c.args.now packet)) c.requires.within (c.note_start.ensures.links a packet hand) i;
       };
       horizon = same.4;
       inbox = ap (λ v. v.all) same.1;

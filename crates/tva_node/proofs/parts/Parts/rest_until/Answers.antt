@@ -4,9 +4,8 @@ use Rattle.tva_node.proofs.parts.Parts.rest_until.Goals as goal
 
 pub returns-clause-stands : goal.returns-clause-stands
 returns-clause-stands c =
-    let from = c.args.self.now.worked_to in
     goes_to (state_of c.args.self.now) c.args.end c.max-self.result c.requires.stands c.requires.end c.requires.none
-    (elim (cases_lt from c.args.end) [
+    (elim (cases_lt c.args.self.now.worked_to c.args.end) [
       | inl a ↦ inl (omega arith, let e : c.max-self.result ≡ c.args.end = grind (arith, rules, c.max-self.ensures) in e)
-      | inr a ↦ inr (a, let e : c.max-self.result ≡ from = grind (arith, rules, c.max-self.ensures) in e)
+      | inr a ↦ inr (a, let e : c.max-self.result ≡ c.args.self.now.worked_to = grind (arith, rules, c.max-self.ensures) in e)
     ])

@@ -1,4 +1,4 @@
-use Rattle.tva_node.proofs.Common.{◌≡◌, ◌∷◌, [], ◌++◌, Option, sym, subst, append-nil, cons_option, option_map, IfOk, Made, Call, history_of, Filed, first_segment, segment_due, call_with, known, sent_with, act_of_row, call_of_row, made_for}
+use Rattle.tva_node.proofs.Common.{◌≡◌, ◌∷◌, [], ◌++◌, Option, sym, subst, append-nil, cons_option, option_map, IfOk, Made, Call, Filed, first_segment, segment_due, call_with, known, sent_with, act_of_row, call_of_row}
 use Rattle.tva_transfer.specs.Files.{Ticked}
 use Rattle.tva_transfer.specs.Stands.{StandsFor}
 use Rattle.tva_rows.specs.declared.rows.RowWhat.{RowWhat}
@@ -7,36 +7,21 @@ use Rattle.tva_node.proofs.Rows.{if_both, segment_call, tick_call}
 use Rattle.tva_node.proofs.role.Hosted.make.Goals as goal
 
 pub returns-in_ok-intend-in-Send-clause-stands : goal.returns-in_ok-intend-in-Send-clause-stands
-returns-in_ok-intend-in-Send-clause-stands c = λ calls acts h.
-    let new = c.intend.new.self in
-    let packet = c.in_ok-intend-in-Send.field-0.packet in
-    subst (λ (w : RowWhat). StandsFor new (calls ++ call_of_row c.args.now.0 w packet ∷ []) (acts ++ cons_option (act_of_row w) [])) (sym c.in-Send.is)
-    (subst (StandsFor new _) (sym (append-nil acts)) (c.in_ok-intend-in-Send.ensures.stands calls acts h))
+returns-in_ok-intend-in-Send-clause-stands c = λ calls acts h. rw (c.in-Send.is, append-nil acts) (c.in_ok-intend-in-Send.ensures.stands calls acts h)
 
 pub returns-in-Inject-clause-stands : goal.returns-in-Inject-clause-stands
-returns-in-Inject-clause-stands c = λ calls acts h.
-    let new = c.inject.new.self in
-    subst (λ (w : RowWhat). StandsFor new (calls ++ call_of_row c.args.now.0 w c.inject.result ∷ []) (acts ++ cons_option (act_of_row w) [])) (sym c.in-Inject.is)
-    (subst (StandsFor new _) (sym (append-nil acts)) (c.inject.ensures.stands calls acts h))
+returns-in-Inject-clause-stands c = λ calls acts h. rw (c.in-Inject.is, append-nil acts) (c.inject.ensures.stands calls acts h)
 
 pub returns-in_ok-file-in-File-clause-stands : goal.returns-in_ok-file-in-File-clause-stands
 returns-in_ok-file-in-File-clause-stands c = λ calls acts h.
-    let host = c.args.self.now.courier.host in
-    let new = c.file.new.self in
-    let made = c.in_ok-file-in-File.field-0 in
     let dst = c.in-File.dst in
-    let size = c.in-File.size in
-    let segment = c.in-File.segment in
-    let above = first_segment (known host acts) dst size segment in
-    subst (λ (w : RowWhat). StandsFor new (calls ++ call_of_row c.args.now.0 w made.packet ∷ []) (acts ++ cons_option (act_of_row w) [])) (sym c.in-File.is)
-    (subst (λ (call : Call). StandsFor new (calls ++ call ∷ []) (acts ++ Filed dst size segment ∷ []))
-    (sym (segment_call host calls c.args.now.0 dst above made (c.in_ok-file-in-File.ensures.made calls acts h))) (c.in_ok-file-in-File.ensures.stands calls acts h))
+    let above = first_segment (known c.args.self.now.courier.host acts) dst c.in-File.size c.in-File.segment in
+    subst (λ (w : RowWhat). StandsFor c.file.new.self (calls ++ call_of_row c.args.now.0 w c.in_ok-file-in-File.field-0.packet ∷ []) (acts ++ cons_option (act_of_row w) [])) (sym c.in-File.is)
+    (subst (λ (call : Call). StandsFor c.file.new.self (calls ++ call ∷ []) (acts ++ Filed dst c.in-File.size c.in-File.segment ∷ []))
+    (sym (segment_call c.args.self.now.courier.host calls c.args.now.0 dst above c.in_ok-file-in-File.field-0 (c.in_ok-file-in-File.ensures.made calls acts h))) (c.in_ok-file-in-File.ensures.stands calls acts h))
 
 pub returns-in-Tick-clause-made : goal.returns-in-Tick-clause-made
-returns-in-Tick-clause-made c = λ calls acts h.
-    let host = c.args.self.now.courier.host in
-    subst (λ (w : RowWhat). IfOk c.tick.result (λ made. made ≡ made_for host.node host.plan (history_of host.plan calls) (known host acts) c.args.now.0 w)) (sym c.in-Tick.is)
-    (c.tick.ensures.made calls acts h)
+returns-in-Tick-clause-made c = λ calls acts h. rw c.in-Tick.is (c.tick.ensures.made calls acts h)
 
 pub returns-in-Tick-clause-stands : goal.returns-in-Tick-clause-stands
 returns-in-Tick-clause-stands c = λ calls acts h.

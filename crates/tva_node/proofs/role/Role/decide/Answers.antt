@@ -1,13 +1,9 @@
-use Rattle.tva_node.proofs.Common.{◌≡◌, ◌∙◌, ◌++◌, refl, sym, subst, ap, arith, LinkLimits, decision, decision_by, charges_of_boot, charges, port_logs, Role, Hosted, IsBy, RoleStands, StandsAsHost, role_plan, started_by}
+use Rattle.tva_node.proofs.Common.{nat_tests, ◌≡◌, ◌∙◌, ◌++◌, refl, sym, subst, ap, arith, LinkLimits, decision, decision_by, charges_of_boot, charges, port_logs, Role, Hosted, RoleStands, StandsAsHost, role_plan, started_by}
 use Rattle.tva_node.proofs.Roles.{host_decided, host_out, not_none, router_decided, router_has_out}
-use Rattle.tva_node.proofs.Making.{routed_same}
 use Rattle.tva_node.proofs.role.Role.decide.Goals as goal
 
 pub decide_into-requires-clause-outgoing : goal.decide_into-requires-clause-outgoing
-decide_into-requires-clause-outgoing c =
-    let r = c.requires.out in
-    let out = router_has_out r.0 c.args.self.now c.in-Router.routed c.args.link r.1 c.args.now.0 c.requires.time r.2 r.3 c.in-Router.is r.4 in
-    λ none. not_none _ (c.args.link, r.1) out none
+decide_into-requires-clause-outgoing c = grind (arith, nat_tests, router_has_out, not_none)
 
 pub returns-in-Router-clause-decides : goal.returns-in-Router-clause-decides
 returns-in-Router-clause-decides c = λ site log limits s e out st.
@@ -34,7 +30,4 @@ returns-in-Host-clause-decides c = λ site log limits s e out st.
     )
 
 pub returns-in-Router-clause-last : goal.returns-in-Router-clause-last
-returns-in-Router-clause-last c =
-    let r = c.in-Router.routed in
-    let by = subst (IsBy c.args.now.0) c.in-Router.is c.requires.time in
-    routed_same c.args.now.0 r c.decide_into.new.self r.next by (omega (arith, c.decide_into.ensures.last)) c.decide_into.ensures.built c.decide_into.ensures.same
+returns-in-Router-clause-last c = grind (arith, nat_tests)

@@ -1,13 +1,9 @@
-use Rattle.tva_node.proofs.Common.{◌≡◌, ◌∙◌, sym, subst, ap, LinkLimits, free_after, charges_of_boot, charges, port_logs, Role, RoleStands, role_plan}
+use Rattle.tva_node.proofs.Common.{arith, nat_tests, ◌≡◌, ◌∙◌, sym, subst, ap, LinkLimits, free_after, charges_of_boot, charges, port_logs, Role, RoleStands, role_plan}
 use Rattle.tva_node.proofs.Roles.{host_out, not_none, router_has_out}
 use Rattle.tva_node.proofs.role.Role.free_at.Goals as goal
 
 pub free_at-requires : goal.free_at-requires
-free_at-requires c =
-    let r = c.requires.out in
-    let by = c.requires.time in
-    let out = router_has_out r.0 c.args.self.now c.in-Router.routed c.args.link r.1 by.0 by.1 r.2 r.3 c.in-Router.is r.4 in
-    record { outgoing = λ none. not_none _ (c.args.link, r.1) out none }
+free_at-requires c = grind (arith, nat_tests, router_has_out, not_none)
 
 pub returns-in-Router-clause-free : goal.returns-in-Router-clause-free
 returns-in-Router-clause-free c = λ site log limits s e out st.

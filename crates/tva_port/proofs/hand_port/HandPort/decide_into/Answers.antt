@@ -1,3 +1,4 @@
+use Rattle.std.proofs.Common.{rules}
 use Rattle.tva_port.proofs.Common.{◌≡◌, ◌↔◌, ℕ, ◌+◌, ◌*◌, ◌++◌, ap, sym, ◌∙◌, subst, arith, PacketData, packet_length, LinkLimits, AreLinkLimits, IsLegal, Waiting, IsEmpty, IsRequestAlone, next_request, NoneDueBefore, started_by, PortData, freed, decision_by, Decision, Idle}
 use Rattle.tva_port.proofs.Hands.{rested_leaves, rested_free}
 use Rattle.tva_port.proofs.Standing.{decided, stands_by_decide, paid_less, sound-later}
@@ -59,16 +60,10 @@ returns-clause-occupied c class packet e =
     ∙ ap (λ (v : PortData). c.args.now.0 + packet_length packet * v.limits.ns_per_byte) c.self.view_is)
 
 pub returns-clause-rested : goal.returns-clause-rested
-returns-clause-rested c e =
-    let d = decision_by c.start_next-next.result c.start_next-next.new.hand in (
-      c.start_next-next.ensures.left ∙ (rested_leaves d _ e ∙ ap (λ (v : PortData). v.waiting) c.self.view_is),
-      c.occupy-self-inside.ensures.value ∙ (rested_free c.self.inside.limits c.self.inside.free_at c.args.now.0 d e ∙ ap (λ (v : PortData). v.free_at) c.self.view_is),
-    )
+returns-clause-rested c e = search (rules, rested_leaves, rested_free, c.start_next-next.ensures.left, c.occupy-self-inside.ensures.value)
 
 freed_is : (c : goal.After-self-4-1) → c.occupy-self-inside.result ≡ freed c.args.self.now.limits c.args.self.now.free_at c.args.now.0 (decision_by c.start_next-next.result c.start_next-next.new.hand)
-freed_is c =
-    c.occupy-self-inside.ensures.value
-    ∙ ap (λ (v : PortData). freed v.limits v.free_at c.args.now.0 (decision_by c.start_next-next.result c.start_next-next.new.hand)) c.self.view_is
+freed_is c = search (rules, c.occupy-self-inside.ensures.value)
 
 pub returns-clause-rests : goal.returns-clause-rests
 returns-clause-rests c log until s i time h k =

@@ -1,14 +1,9 @@
-use Rattle.tva_waiting.proofs.Common.{rules, ◌≡◌, ◌+◌, ◌++◌, ◌∷◌, [], Some, None, refl, sym, ◌∙◌, ap, place_in, ring, sorted, input_source, input_time, all_in, Lane, queues_of, sources_of, Lanes}
+use Rattle.tva_waiting.proofs.Common.{arith, nat_tests, rules, ◌≡◌, ◌+◌, ◌++◌, ◌∷◌, [], None, refl, sym, ◌∙◌, ap, place_in, ring, sorted, input_source, input_time, all_in, Lane, queues_of, sources_of, Lanes}
 use Rattle.tva_waiting.proofs.Held.{lane_found, lane_made}
 use Rattle.tva_waiting.proofs.lanes.Lanes.lane_of.Goals as goal
 
 pub returns-in-Some-clause-there : goal.returns-in-Some-clause-there
-returns-in-Some-clause-there c =
-    let w = c.args.self.now in
-    let key : c.from-source.result + 1 ≡ c.args.link + 1 = ap (λ n. n + 1) c.from-source.ensures in
-    let here : place_in (c.args.link + 1) (sources_of w.list.items) ≡ Some c.in-Some.place =
-    ap (λ n. place_in n (sources_of w.list.items)) (sym key) ∙ (ap (λ r. place_in (c.from-source.result + 1) r.keys) (sym c.requires.sources) ∙ (sym c.place.ensures ∙ c.in-Some.is)) in
-    (lane_found w.list.items c.args.link c.in-Some.place here).1
+returns-in-Some-clause-there c = grind (arith, nat_tests, lane_found)
 
 pub returns-clause-same : goal.returns-clause-same
 returns-clause-same c =

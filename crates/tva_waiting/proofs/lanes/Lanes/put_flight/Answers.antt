@@ -1,20 +1,17 @@
-use Rattle.tva_waiting.proofs.Common.{rules, add-one, ap₂, ◌*◌, ◌≡◌, ◌≤◌, ◌+◌, length, get_or, set, refl, sym, subst, ◌∙◌, ap, insert, IsInOrder, put_in, Lane, Lanes, flight_source, flight_time, with_item}
+use Rattle.tva_waiting.proofs.Common.{arith, nat_tests, rules, add-one, ap₂, ◌*◌, ◌≡◌, ◌≤◌, ◌+◌, length, get_or, set, refl, subst, ◌∙◌, ap, insert, put_in, Lane, Lanes, flight_source, flight_time, with_item, get_or_default}
 use Rattle.std.proofs.Common.{◌^◌}
-use Rattle.tva_waiting.proofs.Finding.{any_default}
 use Rattle.tva_waiting.proofs.Held.{flight_waits, lane_in_order}
 use Rattle.tva_waiting.proofs.lanes.Lanes.put_flight.Goals as goal
 
 pub put_in_lane-at-requires-clause-order : goal.put_in_lane-at-requires-clause-order
-put_in_lane-at-requires-clause-order c =
-    let w = c.args.self.now in
-    subst (λ l. IsInOrder flight_time flight_source l.flights.items) (sym c.index_mut.ensures.value) (lane_in_order w c.requires.waiting c.args.place c.index_mut.result.now c.requires.lane.within)
+put_in_lane-at-requires-clause-order c = grind (arith, nat_tests, lane_in_order)
 
 pub returns-then-at-eq0 : goal.returns-then-at-eq0
 returns-then-at-eq0 c =
     let w = c.args.self.now in
     let lane : Lane = c.put_in_lane-at.new.lane in
     let v : Lanes = record { rows = w.rows; layouts = w.layouts; list = with_item w.list c.args.place lane; sources = w.sources; heads = c.put.new.self; places = w.places; alloc = w.alloc } in
-    let is : c.index_mut.result.now ≡ get_or w.list.items c.args.place lane = c.index_mut.ensures.value ∙ any_default w.list.items c.args.place c.index_mut.result.now lane c.requires.lane.within in
+    let is : c.index_mut.result.now ≡ get_or w.list.items c.args.place lane = c.index_mut.ensures.value ∙ get_or_default w.list.items c.args.place c.index_mut.result.now lane c.requires.lane.within in
     flight_waits w v c.args.place lane c.requires.waiting c.requires.lane.within (c.put_in_lane-at.ensures.same ∙ ap (λ l. l.link) is) refl refl refl refl refl c.put_in_lane-at.result c.args.flight (c.requires.lane.its lane) (search rules)
     (c.put_in_lane-at.ensures.put ∙ ap (λ l. put_in flight_time flight_source c.args.flight l.flights.items) is)
     (c.put_in_lane-at.ensures.at ∙ ap (λ l. insert l.flights.items c.put_in_lane-at.result c.args.flight) is)
@@ -26,7 +23,7 @@ returns-else-at-eq0 c =
     let w = c.args.self.now in
     let lane : Lane = c.put_in_lane-at.new.lane in
     let v : Lanes = record { rows = w.rows; layouts = w.layouts; list = with_item w.list c.args.place lane; sources = w.sources; heads = w.heads; places = w.places; alloc = w.alloc } in
-    let is : c.index_mut.result.now ≡ get_or w.list.items c.args.place lane = c.index_mut.ensures.value ∙ any_default w.list.items c.args.place c.index_mut.result.now lane c.requires.lane.within in
+    let is : c.index_mut.result.now ≡ get_or w.list.items c.args.place lane = c.index_mut.ensures.value ∙ get_or_default w.list.items c.args.place c.index_mut.result.now lane c.requires.lane.within in
     flight_waits w v c.args.place lane c.requires.waiting c.requires.lane.within (c.put_in_lane-at.ensures.same ∙ ap (λ l. l.link) is) refl refl refl refl refl c.put_in_lane-at.result c.args.flight (c.requires.lane.its lane) (search rules)
     (c.put_in_lane-at.ensures.put ∙ ap (λ l. put_in flight_time flight_source c.args.flight l.flights.items) is)
     (c.put_in_lane-at.ensures.at ∙ ap (λ l. insert l.flights.items c.put_in_lane-at.result c.args.flight) is)

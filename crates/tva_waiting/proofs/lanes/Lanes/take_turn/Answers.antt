@@ -1,11 +1,9 @@
-use Rattle.tva_waiting.proofs.Common.{rules, ◌≡◌, length, set, refl, ◌∙◌, ap, Lanes}
+use Rattle.tva_waiting.proofs.Common.{arith, nat_tests, set, refl, ◌∙◌, ap, Lanes}
 use Rattle.tva_waiting.proofs.Held.{row_taken, rows_wait}
 use Rattle.tva_waiting.proofs.lanes.Lanes.take_turn.Goals as goal
 
 pub unreachable-requires : goal.unreachable-requires
-unreachable-requires c =
-    let none : length c.args.self.now.rows.items ≡ 0 = search rules in
-    rows_wait c.args.self.now c.requires.waiting c.requires.row none
+unreachable-requires c = grind (arith, nat_tests, rows_wait)
 
 pub returns-clause-taken : goal.returns-clause-taken
 returns-clause-taken c =
